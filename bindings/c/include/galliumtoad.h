@@ -1071,8 +1071,8 @@ GT_MUST_CHECK int32_t gt_exchange_responded(gt_exchange *e, const uint8_t *respo
  * status before it takes the data: then a status 61XX, 62XX, 63XX or 9XXX is no success.
  *
  * - GT_SENT_UNKNOWN: the answer to a whole TPDU or command was taken, even without data, or
- *   GT_BAD_PROCEDURE or GT_TOO_LONG has ended the last TPDU. By TPDUs GT_NOT_ALL_SENT of another
- *   TPDU comes first.
+ *   GT_BAD_PROCEDURE or GT_TOO_LONG has ended the last TPDU. By characters and TPDUs
+ *   GT_NOT_ALL_SENT of another TPDU comes first.
  * - GT_ALL_SENT: else, they have, or the command has no data.
  * - GT_NOT_ALL_SENT: else, they have not, and won't once the exchange has ended. */
 GT_MUST_CHECK int32_t gt_exchange_data_sent(gt_exchange *e) {

@@ -82,12 +82,13 @@ pub trait Application {
 /// [`CardT1`](crate::CardT1). A command is carried out at most once, by [`turn`](Card::turn),
 /// [`send_bytes`](Card::send_bytes), [`tpdu`](Card::tpdu), [`apdu`](Card::apdu), their forms with
 /// `_into`, or [`CardT1::block_into`](crate::CardT1::block_into). The card itself answers GET
-/// RESPONSE, the same header with the P3 that `6CXX` names, INS `6X` and `9X`, and with `6700`
-/// [wrong whole commands](Card::apdu).
+/// RESPONSE, the same header with the P3 that `6CXX` names, INS `6X` and `9X` (of `apdu`
+/// [`Error::InvalidIns`]), and with `6700` [wrong whole commands](Card::apdu).
 ///
 /// A panic of the application, or an error after it was called, resets the card and the
-/// application: [`Error::Argument`] for a status or a length that no application may return, and
-/// [`Error::Memory`]. [`Error::Buffer`] of `CardT1::block_into` resets neither.
+/// application. It is [`Error::Argument`] for a status or a length that no application may
+/// return, [`Error::Memory`], or of `tpdu` [`Error::WantsData`] or [`Error::SendsData`].
+/// [`Error::Buffer`] of `CardT1::block_into` resets neither.
 ///
 /// ```
 #[doc = include_str!("../examples/counter.rs")]

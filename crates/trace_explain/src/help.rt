@@ -35,15 +35,15 @@ pub const MASK: &str =
 
 pub const RESUME: &str =
     "Continues after an unexpected byte, at the next header or `reset`, with `--mask` or \
-    `--unsigned` only at `reset`; not with `--tpdu` or a log's form";
+    `--unsigned` only at `reset`; not with `--tpdu`; a log's form is not read";
 
 pub const FORM: &str =
-    "Sets the form of the lines; not with `--form-file` or `--unsigned`, nor a log's form with \
-    `--resume`";
+    "Sets the form of the lines; not with `--form-file` or `--unsigned`; a log's form is not read \
+    with `--resume`";
 
 pub const FORM_FILE: &str =
-    "Reads lines by the first form in this file; not with `--form` or `--unsigned`, nor a log's \
-    form with `--resume`";
+    "Reads lines by the first form in this file; not with `--form` or `--unsigned`; a log's form \
+    is not read with `--resume`";
 
 pub const NAMES_FILE: &str = "Adds the names in this file, which come before those of the program";
 

@@ -42,8 +42,8 @@ impl fmt::Display for Reason {
 }
 
 /// The first fault, from the left, of bytes that are not a list of objects. `place` is the offset
-/// of the first byte that starts no object. A template around that byte is not the fault, and
-/// nothing inside a cut template counts.
+/// of the first byte where an object should start and none does. A template around it is not the
+/// fault, and nothing inside a cut template counts.
 ///
 /// [`Tag::read`](crate::Tag::read) returns one at place 0 if the bytes start with no tag, also for
 /// empty bytes and padding.

@@ -268,7 +268,8 @@ def serve_tty(of: Simulator, path: str, baud: int, signal: str) -> None:
 
 
 def serve_pty(of: Simulator, has_echo: bool, tell: Callable[[str], object]) -> None:
-    """Serves a pseudo terminal, whose name `tell` gets, until `is_over`. Each opening resets."""
+    """Serves a pseudo terminal, whose name `tell` gets, until `is_over`. Opening it resets,
+    unless it is open, or was closed in the same moment."""
     ours, theirs = pty.openpty()
     closed, line = select.poll(), Line(of, ours, has_echo)
     closed.register(ours, 0)
@@ -342,11 +343,12 @@ def parser() -> argparse.ArgumentParser:
     add = it.add_argument
     card("--table", metavar="FILE", type=read_table, help="lines `app`, `object`, `locked`, `atr`")
     card("--application", metavar="MODULE:CLASS", dest="own", type=application,
-         help="a class of Python, of a module in this folder or of an installed one")
+         help="an Application made without arguments, of a module here or of an installed one")
     card("--program", metavar="COMMAND", dest="own", type=Program, help="by lines, in any language")
     card("--replay", metavar="FILE", help="a capture, or its trace_explain --json --commands")
     place("--vpcd", nargs="?", const=VPCD, metavar="HOST:PORT", help=f"vsmartcard's reader; {VPCD}")
-    place("--pty", action="store_true", help="prints a pseudo terminal's name; each opening resets")
+    place("--pty", action="store_true", help="prints a pseudo terminal's name; opening it resets, "
+          "unless it is open, or was closed in the same moment")
     place("--tty", metavar="PATH", help="a serial line")
     add("--atr", type=bytes.fromhex, metavar="HEX",
         help="the answer to reset; without it that of the card, else 3B00")

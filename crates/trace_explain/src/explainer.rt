@@ -214,9 +214,7 @@ impl Explainer {
             is_loose: false,
             line: self.number,
         };
-        let count = self
-            .teller
-            .hear_run(&mut self.listener, from, bytes, mark)?;
+        let count = self.teller.hear_run(&mut self.listener, from, bytes, mark)?;
         Ok(count)
     }
 

@@ -1,12 +1,10 @@
 -- What a card of an own application does, it does as a card that has no data objects.
-use Rattle.std.proofs.Common.{◌≡◌, ◌<◌, ℕ, ℤ, List, length, Option, None, Some, false, refl, arith}
+use Rattle.std.proofs.Common.{◌≡◌, ℕ, ℤ, List, Option, None, Some, false, refl, inr}
 use Rattle.std.specs.Prelude.{is_some}
 use Rattle.t0_core.specs.CardSending.{IsHandedOut}
 use Rattle.t0_core.specs.CardSide.{EndOf}
 use Rattle.t0_core.specs.Plan.{Cursor, plan_kept}
 use Rattle.object_card.specs.CardView.{CardView}
-use Rattle.command_card.specs.declared.application.TheConstants.{OWN_RESPONSE_LIMIT}
-use Rattle.command_card.specs.Carrying.{IsOwn}
 use Rattle.card_c.specs.declared.card_side.CardSide.{CardSide}
 use Rattle.card_c.specs.declared.card_side.CardSide.TheVariants.{Building, Standing, Joined, AtT1, Own, OwnAtT1}
 use Rattle.card_c.specs.BufferCalls.{CardReceives, CardSends}
@@ -14,7 +12,7 @@ use Rattle.card_c.specs.CardApduCalls.{RespondsTo}
 use Rattle.card_c.specs.CardCalls.{Resets, TakesOne, Turns}
 use Rattle.card_c.specs.CardT1Calls.{at_t0}
 use Rattle.card_c.specs.CardTpduCalls.{CarriesOut}
-use Rattle.card_c.specs.OwnCalls.{MayBeGiven, OwnCard, OwnHandsOutOne, OwnReceives, OwnResets, OwnSends, OwnTakes, OwnTurns, own_card, word_of}
+use Rattle.card_c.specs.OwnCalls.{OwnCard, OwnHandsOut, OwnHandsOutOne, OwnReceives, OwnResets, OwnSends, OwnTakes, OwnTurns, own_card}
 use Rattle.card_c.specs.OwnT1.{own_at_t0}
 use Rattle.card_c.specs.OwnWhole.{OwnCommand, OwnTpdu}
 
@@ -99,12 +97,16 @@ empty_is None none = refl
 empty_is (Some side) none = absurd (cc)
 
 -- a data character takes no plan
-pub own_driven : (plans : Cursor) (s t : EndOf OwnCard) (b : ℕ) → IsHandedOut own_card s b t
-    → OwnHandsOutOne (s, plans) b (t, plans)
-own_driven plans s t b is = (
+pub own_handed : (plans : Cursor) (s t : EndOf OwnCard) (b : ℕ) → IsHandedOut own_card s b t
+    → OwnHandsOut s plans b t plans
+own_handed plans s t b is = (
   is.silent,
   rw is.begun refl,
   is.led,
   λ first came taken led last. rw is.begun
       (is.led_under first came taken (plan_kept plans) led (last is.begun)),
 )
+
+pub own_driven : (plans : Cursor) (s t : EndOf OwnCard) (b : ℕ) → IsHandedOut own_card s b t
+    → OwnHandsOutOne (s, plans) b (t, plans)
+own_driven plans s t b is = (inr is, own_handed plans s t b is)

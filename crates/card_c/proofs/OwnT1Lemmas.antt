@@ -1,5 +1,5 @@
 -- What the calls on a card of an own application at T=1 leave.
-use Rattle.std.proofs.Common.{◌≡◌, refl, sym, ap, subst, ℕ, List, [], Option, Some, None, Bool, true, false}
+use Rattle.std.proofs.Common.{◌≡◌, refl, sym, ap, subst, ℕ, List, [], Option, Some, None}
 use Rattle.t1_core.specs.declared.card.Reply.{Reply}
 use Rattle.t1_core.specs.declared.pcb.BlockReason.{BlockReason}
 use Rattle.t1_core.specs.Patience.{Misses, PatientOf}

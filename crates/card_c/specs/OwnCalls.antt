@@ -10,6 +10,7 @@ use Rattle.t0_core.specs.declared.tpdu_card.TpduCard.{Ghosts}
 use Rattle.t0_core.specs.Buffers.{HandsOut, Steps}
 use Rattle.t0_core.specs.CardHistory.{Leads, LeadsUnder, IsTakenLast}
 use Rattle.t0_core.specs.CardSide.{EndOf, StandsAt, Taking_header, listens, takes_plan}
+use Rattle.t0_core.specs.CardSending.{IsHandedOut}
 use Rattle.t0_core.specs.CardTaking.{IsTaken}
 use Rattle.t0_core.specs.Dialogue.{Dialogue}
 use Rattle.t0_core.specs.Front.{Front, GoesThrough}
@@ -29,7 +30,7 @@ use Rattle.command_card.specs.Given.{Answers, GivenState, after_drop, settled, t
 use Rattle.command_card.specs.Meaning.{Does}
 use Rattle.command_card.specs.State.{CardState}
 use Rattle.command_card.specs.View.{CardOf, MayReceive, MaySend, after_reset, prepared_in, standing_in}
-use Rattle.command_card.specs.Wanted.{IsWanted, is_open, wanted_by, wanted_for}
+use Rattle.command_card.specs.Wanted.{IsWanted, MayTake, may_decide, wanted_by, wanted_for}
 use Rattle.card_c.specs.declared.card_side.CardSide.{CardSide}
 use Rattle.card_c.specs.declared.card_side.CardSide.TheVariants.{Own, OwnAtT1}
 use Rattle.card_c.specs.declared.command_record.CommandRecord.{CommandRecord}
@@ -169,8 +170,10 @@ OwnTurns before byte side code new = (code ≡ gt_state) × (new ≡ side) × (b
 abbrev pub OwnDriven : Type 0
 OwnDriven = EndOf OwnCard × Cursor
 
+-- Nothing waits before the character, or it is data of the card.
 abbrev pub OwnHandsOutOne : OwnDriven → ℕ → OwnDriven → Type 0
-OwnHandsOutOne s byte t = OwnHandsOut s.0 s.1 byte t.0 t.1
+OwnHandsOutOne s byte t = (IsWanted s.0 wanted.Nothing ⊎ IsHandedOut own_card s.0 byte t.0)
+    × OwnHandsOut s.0 s.1 byte t.0 t.1
 
 -- why no more characters are written: the array is full, something waits, or the card listens
 abbrev pub OwnStops : List ℕ → ℕ → EndOf OwnCard → ℤ → Type 0
@@ -299,11 +302,11 @@ TellsCommand old new side code = (code ≡ gt_state) × (new ≡ old)
 abbrev pub IsEndWith : EndOf OwnCard → OwnCard → EndOf OwnCard → Type 0
 IsEndWith end card new = (new.stage ≡ end.stage) × (new.card ≡ card)
 
--- The header that waits gets its direction.
+-- The header that waits gets its direction, if the card takes one.
 abbrev pub DecidesOne : Wanted → Bool → EndOf OwnCard → ℤ → EndOf OwnCard → Type 0
 DecidesOne (wanted.Direction h) to_card end code new =
-    ((code ≡ gt_state) × IsEndWith end end.card new)
-    ⊎ ((code ≡ gt_ok) × IsEndWith end (record end.card {
+    ((may_decide end.card ≡ false) × (code ≡ gt_state) × IsEndWith end end.card new)
+    ⊎ ((may_decide end.card ≡ true) × (code ≡ gt_ok) × IsEndWith end (record end.card {
       app = record end.card.app { directions = way.Known to_card };
     }) new)
 DecidesOne wanted.Nothing to_card end code new = (code ≡ gt_state) × (new ≡ end)
@@ -330,16 +333,18 @@ abbrev pub MayBeGiven : List ℕ → ℕ → Type 0
 MayBeGiven bytes number = IsStatusWord (word_of number) × IsOwn (word_of number)
     × (length bytes ≤ OWN_RESPONSE_LIMIT)
 
--- The command in progress gets this response, and no other goes out for it. Or it is refused.
+-- The command in progress gets this response, and no other goes out for it. Or it is refused: no
+-- application may give it, memory ran out, or the card takes none now.
 abbrev pub GivesOne : List ℕ → ℕ → EndOf OwnCard → ℤ → EndOf OwnCard → Type 0
 GivesOne bytes number end code new =
-    (MayBeGiven bytes number × (code ≡ gt_ok) × IsEndWith end (record end.card {
+    (MayTake end.card × MayBeGiven bytes number × (code ≡ gt_ok)
+    × IsEndWith end (record end.card {
       app = with_answer end.card.app bytes (word_of number);
     }) new)
     ⊎ ((¬ MayBeGiven bytes number) × (code ≡ gt_argument) × IsEndWith end end.card new)
-    ⊎ ((code ≡ gt_memory) × IsEndWith end end.card new)
-    ⊎ ((¬ ((is_open end.card.ready ≡ true) × (end.card.app.given ≡ None)))
-    × (code ≡ gt_state) × IsEndWith end end.card new)
+    ⊎ (MayTake end.card × MayBeGiven bytes number × (code ≡ gt_memory)
+    × IsEndWith end end.card new)
+    ⊎ ((¬ MayTake end.card) × (code ≡ gt_state) × IsEndWith end end.card new)
 
 -- the same of the command that waits, if one does
 abbrev pub RespondsOne : Wanted → List ℕ → ℕ → EndOf OwnCard → ℤ → EndOf OwnCard → Type 0

@@ -2,7 +2,6 @@
 use Rattle.std.specs.Prelude.{◌≡◌, ◌⊎◌, ⊤, ℕ, ℤ, ◌<◌, zero, suc, ◌&&◌, Bool, true, false, List, [], ◌++◌, take, length, Option, Some, None, MatchOption}
 use Rattle.t0_core.specs.CardSide.{EndOf}
 use Rattle.t0_core.specs.CardTpdu.{rests}
-use Rattle.t0_core.specs.Plan.{Cursor}
 use Rattle.t1_core.specs.declared.applet.Applet.{Ghosts}
 use Rattle.t1_core.specs.declared.card.Reply.{Reply}
 use Rattle.t1_core.specs.declared.pcb.BlockReason.{BlockReason}
@@ -17,7 +16,7 @@ use Rattle.command_card.specs.AtT1.{DoesBytes}
 use Rattle.command_card.specs.Given.{GivenState}
 use Rattle.command_card.specs.State.{CardState}
 use Rattle.command_card.specs.View.{standing_in}
-use Rattle.command_card.specs.Wanted.{IsWanted, RespondsAs, taken_back}
+use Rattle.command_card.specs.Wanted.{IsWanted, RespondsAtT1, taken_back}
 use Rattle.card_c.specs.declared.card_side.CardSide.{CardSide}
 use Rattle.card_c.specs.declared.card_side.CardSide.TheVariants.{Own, OwnAtT1}
 use Rattle.card_c.specs.declared.own_side.OwnSide.{OwnSide}
@@ -34,7 +33,7 @@ own_applet = record {
   LIMIT = 261;
   State = CardState GivenState;
   standing = λ applet. standing_in (λ s. s) applet.end.card;
-  Does = DoesBytes RespondsAs;
+  Does = DoesBytes RespondsAtT1;
 }
 
 -- nothing waits as a whole

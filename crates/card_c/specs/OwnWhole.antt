@@ -1,5 +1,5 @@
 -- What the calls by whole TPDUs and commands do to a card of an own application.
-use Rattle.std.specs.Prelude.{◌≡◌, ◌≢◌, ◌⊎◌, ◌<◌, ◌≤◌, ℕ, ℤ, List, [], length, Option, Some, None, true, false}
+use Rattle.std.specs.Prelude.{◌≡◌, ◌≢◌, ◌⊎◌, ◌<◌, ◌≤◌, ℕ, ℤ, List, [], length, Some, None, true, false}
 use Rattle.apdu_core.specs.declared.command.ApduFault.{ApduFault}
 use Rattle.apdu_core.specs.declared.command.ApduFault.TheVariants.{BadLength}
 use Rattle.apdu_core.specs.CommandBytes.{Command, IsCommand, command_bytes}

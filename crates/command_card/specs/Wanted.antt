@@ -1,21 +1,24 @@
 -- What a card of given responses asks its caller before it continues.
-use Rattle.std.specs.Prelude.{◌≡◌, ◌⊎◌, ℕ, ◌==◌, ◌&&◌, not, List, [], ◌∷◌, length, Option, Some, None, Bool, true, false, unwrap_or, is_some, if◌then◌else◌}
+use Rattle.std.specs.Prelude.{◌≡◌, ◌⊎◌, ℕ, ◌<◌, ◌≤◌, ◌==◌, ◌&&◌, not, List, [], ◌∷◌, length, Option, Some, None, Bool, true, false, unwrap_or, is_some, if◌then◌else◌}
 use Rattle.apdu_core.specs.declared.header.Header.{Header}
 use Rattle.apdu_core.specs.HeaderBytes.{ins_is_valid}
 use Rattle.apdu_core.specs.CommandBytes.{Command}
-use Rattle.apdu_core.specs.StatusWord.{count}
+use Rattle.apdu_core.specs.StatusWord.{StatusWord, count}
 use Rattle.t0_core.specs.CardSide.{EndOf, Taking_header, begins_with, takes_plan, whole_data}
 use Rattle.command_card.specs.declared.given.Directions.{Directions}
 use Rattle.command_card.specs.declared.given.Directions.TheVariants.{Table, Unknown, Known}
+use Rattle.command_card.specs.declared.application.TheConstants.{OWN_RESPONSE_LIMIT}
+use Rattle.command_card.specs.declared.own.GiveFault.{GiveFault}
+use Rattle.command_card.specs.declared.own.GiveFault.TheVariants as fault
 use Rattle.command_card.specs.declared.own.Need.{Need}
 use Rattle.command_card.specs.declared.own.Need.TheVariants as need
 use Rattle.command_card.specs.declared.own.Wanted.{Wanted}
 use Rattle.command_card.specs.declared.own.Wanted.TheVariants as wanted
 use Rattle.command_card.specs.declared.ready.Ready.{Ready}
 use Rattle.command_card.specs.declared.ready.Ready.TheVariants as ready
-use Rattle.command_card.specs.Carrying.{asking, taking}
+use Rattle.command_card.specs.Carrying.{IsOwn, asking, taking}
 use Rattle.command_card.specs.AtT1.{Responds}
-use Rattle.command_card.specs.Given.{GivenState, Gives, after_drop, takes_data, without_answer}
+use Rattle.command_card.specs.Given.{GivenState, Gives, after_drop, takes_data, with_answer, without_answer}
 use Rattle.command_card.specs.Meaning.{Kind, Invalid, Hands, Unfetched, Takes, Asks, kind_in}
 use Rattle.command_card.specs.State.{CardState, is_fetch}
 use Rattle.command_card.specs.View.{CardOf, standing_in}
@@ -87,6 +90,33 @@ is_free (ready.Receives h p3 cut) = false
 is_free (ready.Sends h p3 cut from status ending) = false
 is_free (ready.Leaves ending) = false
 
+-- The card takes a direction: no TPDU has reached it, and it does not know the direction.
+abbrev pub may_decide : CardOf GivenState → Bool
+may_decide c = is_free c.ready && not (is_known c.app.directions)
+
+-- The card takes a response: it has prepared no answer, and has no response.
+abbrev pub MayTake : CardOf GivenState → Type 0
+MayTake c = (is_open c.ready ≡ true) × (c.app.given ≡ None)
+
+-- Why this response is not taken: the first reason that holds.
+abbrev pub IsNotTaken : CardOf GivenState → List ℕ → StatusWord → GiveFault → Type 0
+IsNotTaken c bytes status fault.NotWanted = ¬ MayTake c
+IsNotTaken c bytes status fault.TooLong = MayTake c × (OWN_RESPONSE_LIMIT < length bytes)
+IsNotTaken c bytes status fault.CardsOwn =
+    MayTake c × (length bytes ≤ OWN_RESPONSE_LIMIT) × (¬ IsOwn status)
+IsNotTaken c bytes status fault.OutOfMemory =
+    MayTake c × (length bytes ≤ OWN_RESPONSE_LIMIT) × IsOwn status
+
+-- a response is taken
+abbrev pub IsTaken : CardOf GivenState → List ℕ → StatusWord → CardOf GivenState → Type 0
+IsTaken old bytes status new = MayTake old × IsOwn status
+    × (length bytes ≤ OWN_RESPONSE_LIMIT)
+    × (new ≡ record old { app = with_answer old.app bytes status })
+
+-- what the card answered to the last whole command is wiped, unless a TPDU has reached it
+abbrev pub forgotten_by : CardOf GivenState → CardOf GivenState
+forgotten_by c = if is_free c.ready then record c { fresh = [] } else c
+
 -- a command is dropped, and with it what was given for it
 abbrev pub taken_back : CardOf GivenState → CardOf GivenState
 taken_back c = if is_free c.ready then record c { app = after_drop c.app } else c
@@ -120,3 +150,9 @@ abbrev pub RespondsAs : CardState GivenState → Command → List ℕ → CardSt
 RespondsAs old c response new = (app : GivenState)
     × Responds takes_data Gives old c response (record { app = app; left = new.left })
     × (new.app ≡ without_answer app)
+
+-- The same at T=1. Nothing is carried out before the direction and the response that it needs are
+-- there.
+abbrev pub RespondsAtT1 : CardState GivenState → Command → List ℕ → CardState GivenState → Type 0
+RespondsAtT1 old c response new =
+    (wanted_for old.app c ≡ wanted.Nothing) × RespondsAs old c response new

@@ -45,7 +45,7 @@ impl Applet for GivenApplet {
     ghost use Rattle.command_card.specs.AtT1.{DoesBytes};
     ghost use Rattle.command_card.specs.State.{CardState};
     ghost use Rattle.command_card.specs.View.{standing_in};
-    ghost use Rattle.command_card.specs.Wanted.{RespondsAs};
+    ghost use Rattle.command_card.specs.Wanted.{RespondsAtT1};
 
     const LIMIT: usize = COMMAND_LIMIT;
 
@@ -55,7 +55,7 @@ impl Applet for GivenApplet {
 
     ghost standing = { λ c. standing_in (λ s. s) c.end.card };
 
-    ghost Does = { DoesBytes RespondsAs };
+    ghost Does = { DoesBytes RespondsAtT1 };
 
     fn carry_out(
         &mut self,

@@ -1,15 +1,12 @@
 //! The card of an application whose responses come from outside, and what it asks its caller.
-ghost use Rattle.std.specs.Prelude.{◌≡◌, ◌+◌, ◌≤◌, ◌<◌, [], length, vec_capacity, None, Some, true, false, Err, OnOk, OnErr, IfOk};
+ghost use Rattle.std.specs.Prelude.{◌≡◌, ◌+◌, ◌≤◌, [], length, vec_capacity, None, Some, true, false, OnOk, OnErr, IfOk, IfErr};
 ghost use Rattle.apdu_core.specs.declared.header.Header.{Header};
-ghost use Rattle.command_card.specs.declared.own.GiveFault.TheVariants as fault;
 ghost use Rattle.command_card.specs.declared.given.Directions.TheVariants as way;
-ghost use Rattle.command_card.specs.declared.application.TheConstants.{OWN_RESPONSE_LIMIT};
 ghost use Rattle.command_card.specs.declared.applet.TheConstants.{RESPONSE_ROOM};
-ghost use Rattle.command_card.specs.Carrying.{IsOwn};
-ghost use Rattle.command_card.specs.Given.{Gives, settled, takes_data, with_answer};
+ghost use Rattle.command_card.specs.Given.{Gives, settled, takes_data};
 ghost use Rattle.command_card.specs.AtT1.{Responds, may_bring};
 ghost use Rattle.command_card.specs.View.{WaitsFor, standing_in, state_of, prepared_in};
-ghost use Rattle.command_card.specs.Wanted.{IsWanted, RespondsAs, is_free, is_open, is_known, need_in, taken_back, wanted_as, wanted_by, wanted_for, wanted_with};
+ghost use Rattle.command_card.specs.Wanted.{IsNotTaken, IsTaken, IsWanted, RespondsAs, forgotten_by, is_free, is_open, is_known, may_decide, need_in, taken_back, wanted_as, wanted_by, wanted_for, wanted_with};
 
 use crate::answer::{pending_for, wipe, word};
 use crate::applet::{RESPONSE_ROOM, hand_out, write};
@@ -125,12 +122,8 @@ impl CommandCard<Given> {
         ensures prepared { prepared_in (λ s. s) settled self.new
             ≡ prepared_in (λ s. s) settled self.old }
         ensures failed { OnErr result (self.new ≡ self.old) }
-        ensures done { OnOk result (IsOwn status × (length bytes.now ≤ OWN_RESPONSE_LIMIT)
-            × (self.new ≡ record self.old { app = with_answer self.old.app bytes.now status })) }
-        ensures wanted { result ≡ Err fault.NotWanted →
-            ¬ ((is_open self.old.ready ≡ true) × (self.old.app.given ≡ None)) }
-        ensures long { result ≡ Err fault.TooLong → OWN_RESPONSE_LIMIT < length bytes.now }
-        ensures own { result ≡ Err fault.CardsOwn → ¬ IsOwn status }
+        ensures done { OnOk result (IsTaken self.old bytes.now status self.new) }
+        ensures why { IfErr result (λ f. IsNotTaken self.old bytes.now status f) }
     {
         if !is_open(&self.ready) || self.application.has_response() {
             return Err(GiveFault::NotWanted);
@@ -153,6 +146,7 @@ impl CommandCard<Given> {
     pub fn decide(&mut self, to_card: bool) -> bool
         ensures prepared { prepared_in (λ s. s) settled self.new
             ≡ prepared_in (λ s. s) settled self.old }
+        ensures when { result ≡ may_decide self.old }
         ensures failed { result ≡ false → self.new ≡ self.old }
         ensures done { result ≡ true → self.new
             ≡ record self.old { app = record self.old.app { directions = way.Known to_card } } }
@@ -235,6 +229,7 @@ impl CommandCard<Given> {
         ensures prepared { prepared_in (λ s. s) settled self.new
             ≡ prepared_in (λ s. s) settled self.old }
         ensures stands { standing_in (λ s. s) self.new ≡ standing_in (λ s. s) self.old }
+        ensures done { self.new ≡ forgotten_by self.old }
     {
         if matches!(self.ready, Ready::Nothing) {
             wipe(&mut self.fresh);
@@ -415,14 +410,8 @@ pub fn give(
 ) -> Result<(), GiveFault>
     ensures stage { end.new.stage ≡ end.old.stage }
     ensures failed { OnErr result (end.new.card ≡ end.old.card) }
-    ensures done { OnOk result (IsOwn status × (length bytes.now ≤ OWN_RESPONSE_LIMIT)
-        × (end.new.card ≡ record end.old.card {
-          app = with_answer end.old.card.app bytes.now status;
-        })) }
-    ensures wanted { result ≡ Err fault.NotWanted →
-        ¬ ((is_open end.old.card.ready ≡ true) × (end.old.card.app.given ≡ None)) }
-    ensures long { result ≡ Err fault.TooLong → OWN_RESPONSE_LIMIT < length bytes.now }
-    ensures own { result ≡ Err fault.CardsOwn → ¬ IsOwn status }
+    ensures done { OnOk result (IsTaken end.old.card bytes.now status end.new.card) }
+    ensures why { IfErr result (λ f. IsNotTaken end.old.card bytes.now status f) }
 {
     end.with_card(|card| card.give(bytes, status))
 }
@@ -430,6 +419,7 @@ pub fn give(
 /// States which way the data of the next header go (`CommandCard::decide`).
 pub fn decide(end: &mut CardEnd<CommandCard<Given>>, to_card: bool) -> bool
     ensures stage { end.new.stage ≡ end.old.stage }
+    ensures when { result ≡ may_decide end.old.card }
     ensures failed { result ≡ false → end.new.card ≡ end.old.card }
     ensures done { result ≡ true → end.new.card ≡ record end.old.card {
       app = record end.old.card.app { directions = way.Known to_card };
@@ -474,6 +464,7 @@ pub fn respond_to(
 pub fn forget(end: &mut CardEnd<CommandCard<Given>>)
     ensures stage { end.new.stage ≡ end.old.stage }
     ensures stands { standing_in (λ s. s) end.new.card ≡ standing_in (λ s. s) end.old.card }
+    ensures done { end.new.card ≡ forgotten_by end.old.card }
 {
     end.with_card(|card| card.forget())
 }

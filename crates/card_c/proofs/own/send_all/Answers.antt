@@ -1,4 +1,5 @@
-use Rattle.std.proofs.Common.{◌<◌, ◌+◌, length, arith}
+use Rattle.std.proofs.Common.{◌<◌, ◌+◌, length, subst, inl, arith}
+use Rattle.command_card.specs.Wanted.{IsWanted}
 use Rattle.card_c.specs.OwnCalls.{OwnHandsOutOne, own_card}
 use Rattle.card_c.proofs.BufferLemmas.{data_handed_by, one_handed_by}
 use Rattle.card_c.proofs.OwnLemmas.{own_driven}
@@ -15,8 +16,10 @@ send-preserved-then-run-eq0 c =
     c.in-Some.byte below (omega (arith, run.auto.bytes, c.send.auto.bytes))
     (data_handed_by own_card OwnHandsOutOne own_driven c.send.plans
     (c.args.end.now, c.args.plans.now) c.send.end run.new.end c.args.bytes.now c.send.bytes
-    run.new.bytes c.send.at run.result c.send.auto.bytes c.send.invariant run.ensures)
-    c.in-Some.ensures
+    run.new.bytes c.send.at run.result c.send.auto.bytes c.send.invariant run.ensures) (
+      inl (subst (λ w. IsWanted run.new.end w) c.in-Nothing.is c.wanted_next.ensures),
+      c.in-Some.ensures,
+    )
 
 pub send-preserved : goal.send-preserved
 send-preserved c =

@@ -2,7 +2,6 @@ use Rattle.std.proofs.Common.{◌≡◌, ap, refl, if◌then◌else◌}
 use Rattle.t1_core.specs.declared.pcb.BlockReason.{BlockReason}
 use Rattle.t1_core.specs.declared.pcb.BlockReason.TheVariants as reason
 use Rattle.t1_core.specs.Patience.{Misses}
-use Rattle.card_c.specs.declared.own_side.OwnT1Side.{OwnT1Side}
 use Rattle.card_c.proofs.OwnT1Lemmas.{missed, replied}
 use Rattle.card_c.proofs.own_t1.misses_own.Goals as goal
 use Rattle.card_c.proofs.own_t1.misses_own.Goals.{then-is_damaged, else-is_damaged}

@@ -1,4 +1,4 @@
-use Rattle.std.proofs.Common.{rules, ◌≡◌, inl, inr, refl, subst, sym, ℤ, Option, None, Some, w32, to_z, of_z}
+use Rattle.std.proofs.Common.{rules, inl, inr, refl, subst, sym, ℤ, Option, w32, to_z, of_z}
 use Rattle.t1_core.specs.declared.card.Reply.{Reply}
 use Rattle.card_c.specs.Codes.{gt_memory}
 use Rattle.card_c.specs.OwnT1.{SendsOwnOf, SendsWaiting}

@@ -1,5 +1,4 @@
-use Rattle.std.proofs.Common.{ℕ, List, ◌≤◌, length, sym, subst, ◌∙◌, ap}
-use Rattle.card_c.specs.Codes.{gt_ok}
+use Rattle.std.proofs.Common.{ℕ, List, subst, ◌∙◌, ap}
 use Rattle.card_c.specs.Copying.{IsCopied}
 use Rattle.card_c.proofs.OwnWholeLemmas.{fits_is}
 use Rattle.card_c.proofs.own_whole.hand_over.Goals as goal

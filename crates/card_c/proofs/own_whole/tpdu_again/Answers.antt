@@ -1,4 +1,4 @@
-use Rattle.std.proofs.Common.{ℕ, List, ℤ, sym, subst, ◌∙◌, inl, inr}
+use Rattle.std.proofs.Common.{ℕ, List, ℤ, sym, subst, inl, inr}
 use Rattle.t0_core.specs.CardSide.{EndOf}
 use Rattle.t0_core.specs.Plan.{Cursor}
 use Rattle.card_c.specs.OwnCalls.{OwnCard, OwnDriven}

@@ -1,4 +1,4 @@
-use Rattle.std.proofs.Common.{◌≡◌, ◌+◌, ◌≤◌, ℕ, List, Option, length, sym, subst, ◌∙◌, ap, inr, refl, arith}
+use Rattle.std.proofs.Common.{◌≡◌, ◌≤◌, ℕ, List, Option, length, sym, subst, ◌∙◌, ap, inr, refl, arith}
 use Rattle.std.specs.Prelude.{unwrap_or}
 use Rattle.apdu_core.specs.CommandBytes.{Command}
 use Rattle.apdu_terminal.specs.Apdus.{may_bring}

@@ -110,7 +110,7 @@ boxes_none {a} {b} keeps mask number (more, words, joins) = record {
 
 pub boxes_stay : {a : Account} → Shows [] a a
 boxes_stay {a} = boxes_none {a = a} {b = a} refl refl refl
-    ([], ([], refl), adds_nothing a.sheet)
+    ([], ([], refl), adds_nothing)
 
 pub none_written : (layout : Layout) (mask : Mask) (e : Explainer) → e.reading.of_tpdus ≡ false
     → manner_of (account_of e.teller) ≡ writing layout mask → e.teller.story.number ≡ 0

@@ -1,5 +1,5 @@
 -- Commands at T=1 that are reported.
-use Rattle.std.proofs.Common.{◌≡◌, ◌<◌, ℕ, ◌+◌, List, [], ◌∷◌, ◌++◌, ◌∙◌, ap, refl, sym, subst, lit<, append-nil, append_assoc, length, true, false, Option, Some, None, OnOk, Result, Ok, Err, arith, ◌==◌, if◌then◌else◌}
+use Rattle.std.proofs.Common.{◌≡◌, ℕ, List, [], ◌∷◌, ◌++◌, ◌∙◌, ap, refl, sym, subst, lit<, append-nil, append_assoc, true, false, Option, Some, None, OnOk, Result, Ok, Err, arith, if◌then◌else◌}
 use Rattle.std.proofs.lemmas.List.{length-drop}
 use Rattle.t0_core.specs.declared.end.End.{End}
 use Rattle.t0_core.specs.DialogueLaws.{all_more, flat_map_last}
@@ -17,7 +17,7 @@ use Rattle.trace_explain.specs.declared.write.teller.Teller.{Teller}
 use Rattle.trace_explain.specs.Account.{AddsBoxes}
 use Rattle.trace_explain.specs.Explained.{CarriesAll}
 use Rattle.trace_explain.specs.Lines.{block_events, dialogue_events}
-use Rattle.trace_explain.specs.Noted.{Carried, Event, HasNoted, IsNoted, Part, Passed, Reset, ended_by, events_in, mark_of}
+use Rattle.trace_explain.specs.Noted.{Carried, Event, HasNoted, IsNoted, Part, Passed, Reset, events_in, mark_of}
 use Rattle.trace_explain.specs.Openings.{Opening, is_block, is_dialogue, is_loose, opens, reports_with, role_of}
 use Rattle.trace_explain.specs.Overheard.{Overheard, answered, exchanged}
 use Rattle.trace_explain.specs.Pairs.{IsBadPair, IsPair, beside, command_in, data_in, is_refusal, moved_of, status_in, way_of}
@@ -37,10 +37,10 @@ front_is_fresh t loose (After_first b sw1) reports none =
     absurd (omega (arith, size_of none, size_of reports))
 
 -- One more, between two dialogues at T=0.
-pub carries_on : (events : List Event) (reports : List Report) (l : Listener) (t : Report)
+pub carries_on : {events : List Event} {reports : List Report} {l : Listener} (t : Report)
     → HasNoted events reports l → report_of l.under_way ≡ no_report
     → HasNoted (events ++ Carried t ∷ []) (reports ++ t ∷ []) l
-carries_on events reports l t n none =
+carries_on {events} {reports} {l} t n none =
     let part : Part = (Cut_off [], Carried t ∷ []) in
     let S : Front → Type 0 = λ f. TapStandsAt l.tap f in
     let last_is : n.last ≡ [] = none_on_line n.last (n.last_are
@@ -62,7 +62,7 @@ pub carries_one : (t : Report) (events : List Event) (before ended : List Report
     → AddsBoxes ended old mid → AddsBoxes (t ∷ []) mid new
     → CarriesAll (t ∷ []) events before l old new
 carries_one t events before ended old mid new l noted none first next =
-    let all = carries_on (events ++ Reset ∷ []) (before ++ ended) l t noted none in
+    let all = carries_on t noted none in
     let P : List Event → Type 0 = λ es. HasNoted es ((before ++ ended) ++ t ∷ []) l in
     let Q : List Report → Type 0 = λ ts. HasNoted (events ++ Reset ∷ Carried t ∷ []) ts l in
     record {
@@ -84,9 +84,9 @@ pub carries_is : {all others : List Report} {events : List Event} {before : List
 carries_is {events = events} {before = before} {l = l} {old = old} {new = new} is h =
     let P : List Report → Type 0 = λ ts. CarriesAll ts events before l old new in subst P is h
 
-pub carries_none : (events : List Event) (before : List Report) (l : Listener) {old new : Teller}
+pub carries_none : {events : List Event} {before : List Report} {l : Listener} {old new : Teller}
     → HasNoted events before l → AddsBoxes [] old new → CarriesAll [] events before l old new
-carries_none events before l noted boxes = record {
+carries_none {events} {before} noted boxes = record {
   reports = [];
   noted = rw (append-nil events, append-nil before) noted;
   boxes = boxes;
@@ -142,7 +142,7 @@ pub carries_refused : {T E : Type 0} (r : Result T E) (why : PairFault) (loose :
     → OnOk r (CarriesAll (exchanged loose command answer) events before l old new)
 carries_refused (Ok x) why loose command answer events before l old new is refusal noted boxes =
     carries_is (sym (exchanged_none why loose command answer is refusal))
-    (carries_none events before l noted boxes)
+    (carries_none noted boxes)
 carries_refused (Err e) why loose command answer events before l old new is refusal noted boxes =
     tt
 
@@ -159,26 +159,12 @@ answered_one o mid same is =
 pub reports_some : (r : Role) (o : Overheard) → is_block r ≡ true
     → answered o ≡ reports_with r (Some o)
 reports_some (role.Block from) o block = refl
-reports_some role.Dialogue o block = absurd (let bad : false ≡ true = block in cc)
-reports_some (role.Ts turned) o block = absurd (let bad : false ≡ true = block in cc)
-reports_some role.Answer o block = absurd (let bad : false ≡ true = block in cc)
-reports_some role.RequestPpss o block = absurd (let bad : false ≡ true = block in cc)
-reports_some role.Request o block = absurd (let bad : false ≡ true = block in cc)
-reports_some role.ResponsePpss o block = absurd (let bad : false ≡ true = block in cc)
-reports_some role.Response o block = absurd (let bad : false ≡ true = block in cc)
-reports_some role.Stray o block = absurd (let bad : false ≡ true = block in cc)
+reports_some other o block = absurd (let bad : false ≡ true = block in cc)
 
 -- No other character is one of a block.
 pub none_with : (r : Role) (o : Option Overheard) → is_block r ≡ false → reports_with r o ≡ []
 none_with (role.Block from) o other = absurd (let bad : true ≡ false = other in cc)
-none_with role.Dialogue o other = refl
-none_with (role.Ts turned) o other = refl
-none_with role.Answer o other = refl
-none_with role.RequestPpss o other = refl
-none_with role.Request o other = refl
-none_with role.ResponsePpss o other = refl
-none_with role.Response o other = refl
-none_with role.Stray o other = refl
+none_with r o other = refl
 
 -- The events of a character, by what it is.
 pub none_opens : (o : Opening) (line : ℕ) (from : End) (b : ℕ)
@@ -197,15 +183,8 @@ pub one_passes : (o : Opening) (line : ℕ) (from : End) (b : ℕ)
 one_passes o line from b is = rw is refl
 
 no_dialogue : (r : Role) → is_block r ≡ true → is_dialogue r ≡ false
-no_dialogue (role.Block from) block = refl
 no_dialogue role.Dialogue block = absurd (let bad : false ≡ true = block in cc)
-no_dialogue (role.Ts turned) block = refl
-no_dialogue role.Answer block = refl
-no_dialogue role.RequestPpss block = refl
-no_dialogue role.Request block = refl
-no_dialogue role.ResponsePpss block = refl
-no_dialogue role.Response block = refl
-no_dialogue role.Stray block = refl
+no_dialogue other block = refl
 
 pub block_takes : (o : Opening) (line : ℕ) (from : End) (b : ℕ) (r : Role) (after : Opening)
     → r ≡ role_of o from b → is_block r ≡ true → after ≡ opens o r b line

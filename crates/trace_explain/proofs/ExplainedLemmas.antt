@@ -1,5 +1,5 @@
 -- What an explainer has explained after one more character or line.
-use Rattle.std.proofs.Common.{◌≡◌, ℕ, List, [], ◌∷◌, ◌++◌, length, sym, subst, ◌∙◌, ap, true, false, ◌==◌, refl, append-nil, Result, Ok, Err, OnOk, arith, ◌+◌, ◌<◌, take, append_assoc, get_or, map, Bool, Option, Some, None, inl}
+use Rattle.std.proofs.Common.{◌≡◌, ℕ, List, [], ◌∷◌, ◌++◌, length, sym, subst, ◌∙◌, ap, true, false, ◌==◌, refl, append-nil, Result, Ok, Err, OnOk, arith, ◌+◌, ◌<◌, take, append_assoc, get_or, map, Option, Some, None, inl}
 use Rattle.std.proofs.lemmas.Bool.{eqb-true}
 use Rattle.std.proofs.lemmas.List.{nil_from_length, take_more}
 use Rattle.t0_core.specs.declared.end.End.{End}

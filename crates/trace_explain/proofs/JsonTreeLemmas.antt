@@ -5,7 +5,7 @@ use Rattle.tlv_core.specs.Object.{ObjectList}
 use Rattle.tlv_core.specs.Spelling.{Begins}
 use Rattle.tlv_core.specs.TagForm.{is_constructed}
 use Rattle.trace_explain.specs.declared.write.sheet.Sheet.{Sheet}
-use Rattle.trace_explain.specs.JsonTrees.{AreFields, AreNames, IsWords, PutsFields, PutsText, listed, masked, masked_end, object_begin, primitive, primitive_end, template, template_end}
+use Rattle.trace_explain.specs.JsonTrees.{AreFields, AreNames, IsWords, PutsFields, PutsText, listed, masked, masked_end, object_begin, primitive, primitive_end, template}
 use Rattle.trace_explain.specs.Sheets.{Adds}
 use Rattle.trace_explain.proofs.SheetLemmas.{adds_both}
 
@@ -19,28 +19,23 @@ pub record Going (tags : List (List ℕ)) (all now : ObjectList) (old new : Shee
   pub same_level : now.level ≡ all.level
 
 -- a name, and then a value in words
-pub both_names : (a b c : Sheet) → PutsText (IsWords (codes ",\"name\":\"")) a b
+pub both_names : {a b c : Sheet} → PutsText (IsWords (codes ",\"name\":\"")) a b
     → PutsText (IsWords (codes ",\"words\":\"")) b c → PutsText AreNames a c
-both_names a b c (name, is_name, first) (value, is_value, second) = (
-  name ++ value,
-  (name, value, is_name, is_value, refl),
-  adds_both name value a b c first second,
-)
+both_names (name, is_name, first) (value, is_value, second) =
+    (name ++ value, (name, value, is_name, is_value, refl), adds_both first second)
 
 -- one more object, with this rest after its tag
-past_object : (tags : List (List ℕ)) (all now next : ObjectList) (old new put after : Sheet)
-    (first : Bool) (tag told end : List ℕ) → Going tags all now old new first
+past_object : {tags : List (List ℕ)} {all now next : ObjectList} {old new put after : Sheet}
+    {first : Bool} {tag told end : List ℕ} → Going tags all now old new first
     → next.level ≡ now.level → told ≡ tag
     → ((others : List ℕ) → AreFields tags next.bytes now.level false others
     → AreFields tags now.bytes now.level first (listed first tag end others))
     → Adds new (object_begin first told) put → Adds put end after
     → Going tags all next old after false
-past_object tags all now next old new put after first tag told end g level_is tag_is step begun
-    more =
+past_object {tags} {all} {next = next} {new = new} {put} {first = first} {tag} {end = end} g
+    level_is tag_is step begun more =
     let B : List ℕ → Type 0 = λ t. Adds new (object_begin first t) put in
     let own : List ℕ = object_begin first tag ++ end in
-    let text : Adds new own after =
-    adds_both (object_begin first tag) end new put after (subst B tag_is begun) more in
     record {
       text = g.text ++ own;
       leads = λ others are.
@@ -48,56 +43,51 @@ past_object tags all now next old new put after first tag told end g level_is ta
           let R : List ℕ → Type 0 = λ x. AreFields tags all.bytes all.level true x in
           subst R (sym (append_assoc g.text own others))
           (g.leads (listed first tag end others) (step others (subst Q level_is are)));
-      adds = adds_both g.text own old new after g.adds text;
+      adds = adds_both g.adds (adds_both (subst B tag_is begun) more);
       same_level = level_is ∙ g.same_level;
     }
 
-pub past_masked : (tags : List (List ℕ)) (all now next : ObjectList) (old new put after : Sheet)
-    (first : Bool) (padding tag size value told : List ℕ) → Going tags all now old new first
+pub past_masked : {tags : List (List ℕ)} {all now next : ObjectList} {old new put after : Sheet}
+    {first : Bool} {padding tag size value told : List ℕ} → Going tags all now old new first
     → Begins now.bytes padding tag size value next.bytes now.level → next.level ≡ now.level
     → told ≡ tag → Contains tags told → Adds new (object_begin first told) put
     → Adds put masked_end after → Going tags all next old after false
-past_masked tags all now next old new put after first padding tag size value told g b next_is tag_is
-    has begun more =
+past_masked {tags} {next = next} {padding = padding} {tag} {size} {value} g b next_is tag_is has =
     let H : List ℕ → Type 0 = λ t. Contains tags t in
-    past_object tags all now next old new put after first tag told masked_end g next_is tag_is
+    past_object g next_is tag_is
     (λ others are. masked padding tag size value next.bytes others b (subst H tag_is has) refl are)
-    begun more
 
-pub past_primitive : (tags : List (List ℕ)) (all now next : ObjectList)
-    (old new put said after : Sheet) (first : Bool) (padding tag size value told given : List ℕ)
+pub past_primitive : {tags : List (List ℕ)} {all now next : ObjectList}
+    {old new put said after : Sheet} {first : Bool} {padding tag size value told given : List ℕ}
     → Going tags all now old new first
     → Begins now.bytes padding tag size value next.bytes now.level → next.level ≡ now.level
     → told ≡ tag → given ≡ value → (Contains tags told → ⊥) → is_constructed tag ≡ false
     → Adds new (object_begin first told) put → PutsText AreNames put said
     → Adds said (primitive_end given) after → Going tags all next old after false
-past_primitive tags all now next old new put said after first padding tag size value told given g b
-    next_is tag_is given_is not plain begun (names, are, adds) more =
+past_primitive {tags} {next = next} {said = said} {after} {padding = padding} {tag} {size} {value} g
+    b next_is tag_is given_is not plain begun (names, are, adds) more =
     let H : List ℕ → Type 0 = λ t. Contains tags t → ⊥ in
     let V : List ℕ → Type 0 = λ v. Adds said (primitive_end v) after in
-    past_object tags all now next old new put after first tag told (names ++ primitive_end value) g
-    next_is tag_is (λ others rest. primitive padding tag size value next.bytes names others b
-    (subst H tag_is not) plain are refl rest) begun
-    (adds_both names (primitive_end value) put said after adds (subst V given_is more))
+    past_object g next_is tag_is (λ others rest. primitive padding tag size value next.bytes names
+    others b (subst H tag_is not) plain are refl rest) begun
+    (adds_both adds (subst V given_is more))
 
-pub past_template : (tags : List (List ℕ)) (all now next inner : ObjectList)
-    (old new put said mid after : Sheet) (first : Bool) (padding tag size value told : List ℕ)
-    (deep : ℕ) → Going tags all now old new first
+pub past_template : {tags : List (List ℕ)} {all now next inner : ObjectList}
+    {old new put said mid after : Sheet} {first : Bool} {padding tag size value told : List ℕ}
+    {deep : ℕ} → Going tags all now old new first
     → Begins now.bytes padding tag size value next.bytes now.level → next.level ≡ now.level
     → told ≡ tag → deep ≡ now.level → (Contains tags told → ⊥) → is_constructed tag ≡ true
     → Adds new (object_begin first told) put → PutsText AreNames put said
     → inner ≡ record { bytes = value; level = deep + 1 }
     → PutsFields tags inner.bytes inner.level true said mid → Adds mid (codes "}") after
     → Going tags all next old after false
-past_template tags all now next inner old new put said mid after first padding tag size value told
-    deep g b next_is tag_is deep_is not templ begun (names, are, adds) inner_is
-    (inside, objects, more) ended =
+past_template {tags} {now = now} {next} {padding = padding} {tag} {size} {value} {deep = deep} g b
+    next_is tag_is deep_is not templ begun (names, are, adds) inner_is (inside, objects, more)
+    ended =
     let H : List ℕ → Type 0 = λ t. Contains tags t → ⊥ in
     let Q : ObjectList → Type 0 = λ o. AreFields tags o.bytes o.level true inside in
     let S : ℕ → Type 0 = λ l. AreFields tags value l true inside in
     let down : deep + 1 ≡ suc now.level = omega (arith, deep_is) in
-    past_object tags all now next old new put after first tag told (names ++ template_end inside) g
-    next_is tag_is (λ others rest. template padding tag size value next.bytes names inside others b
-    (subst H tag_is not) templ are (subst S down (subst Q inner_is objects)) refl rest) begun
-    (adds_both names (template_end inside) put said after adds
-    (adds_both inside (codes "}") said mid after more ended))
+    past_object g next_is tag_is (λ others rest. template padding tag size value next.bytes names
+    inside others b (subst H tag_is not) templ are (subst S down (subst Q inner_is objects)) refl
+    rest) begun (adds_both adds (adds_both more ended))

@@ -3,6 +3,7 @@ pub mod ExplainedLemmas
 pub mod TraceLemmas
 pub mod LogLemmas
 mod DigitLemmas
+mod PatternLemmas
 pub mod SheetLemmas
 mod TreeLemmas
 mod JsonTreeLemmas

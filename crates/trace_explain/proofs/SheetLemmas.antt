@@ -14,19 +14,18 @@ use Rattle.trace_explain.specs.declared.write.words.Form.{Form}
 use Rattle.trace_explain.specs.Words.{IsWords, Words, has_own, piece_text}
 use Rattle.trace_explain.specs.Boxes.{InOrder}
 
-pub adds_both : (x y : List ℕ) (a b c : Sheet) → Adds a x b → Adds b y c → Adds a (x ++ y) c
-adds_both x y a b c h k = grind (arith, append_assoc)
+pub adds_both : {x y : List ℕ} {a b c : Sheet} → Adds a x b → Adds b y c → Adds a (x ++ y) c
+adds_both h k = grind (arith, append_assoc)
 
 pub adds_five : {x y z l e : List ℕ} {a b c d f g : Sheet} → Adds a x b → Adds b y c → Adds c z d
     → Adds d l f → Adds f e g → Adds a (x ++ y ++ z ++ l ++ e) g
-adds_five h i j k m =
-    adds_both _ _ _ _ _ (adds_both _ _ _ _ _ (adds_both _ _ _ _ _ (adds_both _ _ _ _ _ h i) j) k) m
+adds_five h i j k m = adds_both (adds_both (adds_both (adds_both h i) j) k) m
 
-pub adds_nothing : (a : Sheet) → Adds a [] a
-adds_nothing a = grind (arith, append-nil)
+pub adds_nothing : {a : Sheet} → Adds a [] a
+adds_nothing = grind (arith, append-nil)
 
-pub adds_as : (x y : List ℕ) (a b : Sheet) → x ≡ y → Adds a x b → Adds a y b
-adds_as x y a b e h = let P : List ℕ → Type 0 = λ t. Adds a t b in subst P e h
+pub adds_as : {x y : List ℕ} {a b : Sheet} → x ≡ y → Adds a x b → Adds a y b
+adds_as {a = a} {b = b} e h = let P : List ℕ → Type 0 = λ t. Adds a t b in subst P e h
 
 -- the rest completes all of the text
 abbrev pub Completes : Sheet → List ℕ → Sheet → List ℕ → Type 0
@@ -36,10 +35,10 @@ pub completes_more : (first now next : Sheet) (all piece rest : List ℕ)
     → Completes first all now (piece ++ rest) → Adds now piece next
     → Completes first all next rest
 completes_more first now next all piece rest so_far more = λ last h.
-    so_far last (adds_both piece rest now next last more h)
+    so_far last (adds_both more h)
 
 pub completed : (first now : Sheet) (all : List ℕ) → Completes first all now [] → Adds first all now
-completed first now all so_far = so_far now (adds_nothing now)
+completed first now all so_far = so_far now adds_nothing
 
 -- a front that is added as it is, then one letter, and at last nothing
 pub letters_front : (f : ℕ → List ℕ) {front rest all : List ℕ} (others : List ℕ)
@@ -73,7 +72,7 @@ spaces_more n i {first} {now} {next} lt so_far more =
     let e : n - i ≡ suc (n - (i + 1)) = omega (arith, lt) in
     let Q : ℕ → Type 0 = λ k. Completes first (spaces n) now (spaces k) in
     completes_more first now next (spaces n) (32 ∷ []) (spaces (n - (i + 1))) (subst Q e so_far)
-    (adds_as _ _ now next (encode_ascii 32 (omega arith)) more)
+    (adds_as (encode_ascii 32 (omega arith)) more)
 
 pub spaces_done : (n i : ℕ) {first now : Sheet} → n ≤ i
     → Completes first (spaces n) now (spaces (n - i)) → Adds first (spaces n) now
@@ -140,10 +139,9 @@ all_lines indent width in_text bytes rest first now so_far none =
     (all, are_all, completed first now (lines_text all) completes)
 
 -- lines, and then others
-pub lines_both : (xs ys : List (List ℕ)) (a b c : Sheet) → Adds a (lines_text xs) b
+pub lines_both : (xs ys : List (List ℕ)) {a b c : Sheet} → Adds a (lines_text xs) b
     → Adds b (lines_text ys) c → Adds a (lines_text (xs ++ ys)) c
-lines_both xs ys a b c h k = adds_as (lines_text xs ++ lines_text ys) (lines_text (xs ++ ys)) a c
-    (sym (flat_map-append (λ line. 10 ∷ line) xs ys)) (adds_both _ _ a b c h k)
+lines_both xs ys h k = adds_as (sym (flat_map-append (λ line. 10 ∷ line) xs ys)) (adds_both h k)
 
 pub words_both : (m : Medium) (x y : List ℕ) → IsWords m x → IsWords m y → IsWords m (x ++ y)
 words_both m x y (xs, x_is) (ys, y_is) =
@@ -156,13 +154,13 @@ words_both m x y (xs, x_is) (ys, y_is) =
 pub same_medium : (a b : Sheet) → b.layout ≡ a.layout → b.layout.medium ≡ a.layout.medium
 same_medium a b e = ap (λ (x : Layout). x.medium) e
 
-pub none_joined : (a : Sheet) → Joins a a
-none_joined a = ([], ([], refl), adds_nothing a)
+pub none_joined : {a : Sheet} → Joins a a
+none_joined = ([], ([], refl), adds_nothing)
 
 -- one piece more
-pub piece_joined : (form : Form) (text : List ℕ) (a b c : Sheet) → has_own form ≡ true → Joins a b
+pub piece_joined : (form : Form) (text : List ℕ) {a b c : Sheet} → has_own form ≡ true → Joins a b
     → Adds b (piece_text b.layout.medium form text) c → Joins a c
-piece_joined form text a b c own (x, (all, is), h) k =
+piece_joined form text {a} {b} {c} own (x, (all, is), h) k =
     let m : Medium = a.layout.medium in
     let P : Medium → Type 0 = λ n. Adds b (piece_text n form text) c in
     let f : Words → List ℕ = λ w. piece_text m w.form w.text in
@@ -170,7 +168,7 @@ piece_joined form text a b c own (x, (all, is), h) k =
     let y : List ℕ = piece_text m form text in (
       x ++ y,
       (all ++ one ∷ [], ap (λ t. t ++ y) is ∙ flat_map_more f [] all one),
-      adds_both x y a b c h (subst P (same_medium a b h.layout) k),
+      adds_both h (subst P (same_medium a b h.layout) k),
     )
 
 -- these were added in turn
@@ -178,7 +176,7 @@ pub record Put (forms : List (Medium → List ℕ → Type 0)) (a b : Sheet) : T
   pub puts : Puts (InOrder forms) a b
 
 pub put_none : {a : Sheet} → Put [] a a
-put_none {a} = record { puts = ([], refl, adds_nothing a) }
+put_none = record { puts = ([], refl, adds_nothing) }
 
 pub put_first : (Is : Medium → List ℕ → Type 0) {forms : List (Medium → List ℕ → Type 0)}
     {a b c : Sheet} → Puts Is a b → Put forms b c → Put (Is ∷ forms) a c
@@ -189,6 +187,6 @@ put_first Is {forms} {a} {b} {c} (x, is, h) others =
       puts = (
         x ++ y,
         (x, y, refl, is, subst P (same_medium a b h.layout) are),
-        adds_both x y a b c h k,
+        adds_both h k,
       );
     }

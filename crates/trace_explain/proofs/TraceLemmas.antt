@@ -124,7 +124,7 @@ run_of_more bytes i within other so_far line left =
     ∙ ap (λ x. lines_from (line ++ x) left) (sym more)
 
 -- A run of a line was received.
-pub run_more : {front : Out} {reading : Reading} {all : List (List ℕ)} {line bytes : List ℕ}
+run_more : {front : Out} {reading : Reading} {all : List (List ℕ)} {line bytes : List ℕ}
     (next run left : List ℕ) {e : Explainer} → HasReceived front reading all line bytes e
     → bytes ≡ run ++ left → AreOfLine run → next ≡ line ++ run
     → HasReceived front reading all next left e
@@ -141,13 +141,23 @@ run_more {line = line} next run left come left_is of same = record {
 }
 
 -- A chunk is a run and others, and more follows.
-pub chunk_cut : (chunk run others left : List ℕ) (n : ℕ) → run ≡ take n chunk
+chunk_cut : (chunk run others left : List ℕ) (n : ℕ) → run ≡ take n chunk
     → others ≡ drop n chunk → chunk ++ left ≡ run ++ (others ++ left)
 chunk_cut chunk run others left n run_is others_is =
     ap (λ x. x ++ left) (sym (take-append-drop n chunk))
     ∙ append_assoc (take n chunk) (drop n chunk) left
     ∙ ap (λ x. x ++ (drop n chunk ++ left)) (sym run_is)
     ∙ ap (λ x. run ++ (x ++ left)) (sym others_is)
+
+-- The run of a chunk was received.
+pub run_cut : {front : Out} {reading : Reading} {all : List (List ℕ)} {line : List ℕ}
+    (next chunk run others left : List ℕ) (n : ℕ) {e : Explainer} → run ≡ take n chunk
+    → others ≡ drop n chunk → AreOfLine (take n chunk) → next ≡ line ++ run
+    → HasReceived front reading all line (chunk ++ left) e
+    → HasReceived front reading all next (others ++ left) e
+run_cut next chunk run others left n run_is others_is of same come =
+    run_more next run (others ++ left) come (chunk_cut chunk run others left n run_is others_is)
+    (subst AreOfLine (sym run_is) of) same
 
 -- What follows a run begins with LF.
 pub ends_line : (rest others left : List ℕ) (n : ℕ) → others ≡ drop n rest → 0 < length others
@@ -247,17 +257,13 @@ first_longer line (b ∷ left) n more =
     split false e (first, others, is, long) =
         (first, others, line_continues line left b e ∙ is, long)
 
-pub too_long : {front : Out} {reading : Reading} {all : List (List ℕ)} {line bytes : List ℕ}
-    (run left : List ℕ) (n : ℕ) {e : Explainer} → HasReceived front reading all line bytes e
-    → bytes ≡ run ++ left → AreOfLine run → 4194304 < length line + length run → n ≡ next_line e
-    → StopsIn (HasLeft front e) reading all (fault.LineTooLong n)
+pub too_long : {front : Out} {reading : Reading} {all : List (List ℕ)} {line left : List ℕ}
+    (n : ℕ) {e : Explainer} → HasReceived front reading all line left e → 4194304 < length line
+    → n ≡ next_line e → StopsIn (HasLeft front e) reading all (fault.LineTooLong n)
 unfolding reached
-too_long {line = line} run left n come bytes_is of long number =
-    let (first, others, is, first_long) = first_longer (line ++ run) left 4194304
-    (omega (arith, length-append line run, long)) in (
-      reached n first others come (ap (lines_from line) bytes_is ∙ of line left ∙ is) number,
-      (first_long, still_left come),
-    )
+too_long {line = line} {left} n come long number =
+    let (first, others, is, first_long) = first_longer line left 4194304 long in
+    (reached n first others come is number, (first_long, still_left come))
 
 -- A line that stops an explainer.
 abbrev pub Stops : ExplainFault → List ℕ → Explainer → Explainer → Type 0

@@ -93,7 +93,18 @@ pub fn diff<R: Read, S: Read, W: Write>(
     let mut output = Output::new(alloc, layout);
     output.page.begin(title);
     let mut words = Sheet::new(alloc, layout);
-    let alike = compare(&mut a, &mut b, &mut words, &mut output)?;
+    write_diff(&mut a, &mut b, &mut words, &mut output, writer)
+}
+
+/// Compares two traces, and writes what `compare` adds.
+fn write_diff<R: Read, S: Read, W: Write>(
+    a: &mut Trace<'_, R>,
+    b: &mut Trace<'_, S>,
+    words: &mut Sheet,
+    output: &mut Output,
+    writer: &mut W,
+) -> Result<bool, DiffFault> {
+    let alike = compare(a, b, words, output)?;
     if output.page.is_html() {
         output.page.open_block();
         output.page.line_row("TPDUs", words.as_str());

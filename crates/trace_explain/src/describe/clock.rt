@@ -177,16 +177,15 @@ impl Moment {
         let mut scale: u64 = 0;
         let mut fraction: u64 = 0;
         for &byte in time {
+            let digit = u64::from(byte.wrapping_sub(b'0'));
             match byte {
-                b'0'..=b'9' if scale == 0 => {
-                    field = field.checked_mul(10)?.checked_add(u64::from(byte - b'0'))?;
-                }
+                b'0'..=b'9' if scale == 0 => field = field.saturating_mul(10).saturating_add(digit),
                 b'0'..=b'9' => {
                     scale /= 10;
-                    fraction = fraction.checked_add(u64::from(byte - b'0').checked_mul(scale)?)?;
+                    fraction = fraction.saturating_add(digit.saturating_mul(scale));
                 }
                 b':' => {
-                    fields = fields.checked_add(field)?.checked_mul(60)?;
+                    fields = fields.saturating_add(field).saturating_mul(60);
                     field = 0;
                 }
                 b'.' | b',' => scale = SECOND,
@@ -194,9 +193,9 @@ impl Moment {
             }
         }
         let unit = measure.unit(time);
-        let whole = fields.checked_add(field)?.checked_mul(unit)?;
-        let nanos = whole.checked_add(fraction.checked_mul(unit)? / SECOND)?;
-        Some(Moment { measure, nanos })
+        let whole = fields.saturating_add(field).saturating_mul(unit);
+        let nanos = whole.saturating_add(fraction.saturating_mul(unit) / SECOND);
+        (nanos < u64::MAX).then_some(Moment { measure, nanos })
     }
 
     /// The moment after the one before it, from which a shift counts.

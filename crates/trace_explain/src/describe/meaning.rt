@@ -5,6 +5,9 @@ use crate::instructions::SIM_CLASS;
 use crate::write::sheet::Sheet;
 use apdu_core::{Header, MEANINGS, Meaning, Status};
 
+/// The place of `9000` in the table. Most commands end with it.
+const WELL: usize = 21;
+
 /// Whether a command succeeded, or its status asks for another: `9000`, `61XX` or `6CXX`. In the
 /// class of a SIM card also `91XX`, `920X` and `9FXX`.
 pub fn is_well(header: Header, status: Status) -> bool {
@@ -16,7 +19,7 @@ pub fn is_well(header: Header, status: Status) -> bool {
 
 /// Adds the meaning of the status of a command.
 pub fn push_meaning(text: &mut Sheet, header: Header, status: Status) {
-    let Some(meaning) = Meaning::find(&MEANINGS, header.cla, header.ins, status) else {
+    let Some(meaning) = meaning_of(header, status) else {
         return;
     };
     match meaning.words.split_once('X') {
@@ -26,5 +29,13 @@ pub fn push_meaning(text: &mut Sheet, header: Header, status: Status) {
             write!(text, "{before}{number}{after}");
         }
         None => text.push_str(meaning.words),
+    }
+}
+
+/// The meaning of the status of a command.
+fn meaning_of(header: Header, status: Status) -> Option<Meaning> {
+    match MEANINGS.get(WELL) {
+        Some(well) if status.is_ok() && well.first == 0x9000 => Some(*well),
+        _ => Meaning::find(&MEANINGS, header.cla, header.ins, status),
     }
 }

@@ -11,6 +11,9 @@ use tlv_core::Tag;
 /// The number of lists of tags, one for each value of the last bits of a tag.
 const LISTS: u64 = 64;
 
+/// The place of the last digit of the provider in an application identifier. Most differ there.
+const RID: usize = 9;
+
 /// The tags of the templates around an object, as numbers whose digits are theirs: that of the
 /// innermost, and that behind the next one's. Both are 0 without a template.
 #[derive(Clone, Copy)]
@@ -178,8 +181,13 @@ impl Names {
 
     /// The name of the longest application identifier that begins the one with these digits.
     pub fn aid(&self, digits: &str) -> Option<&str> {
+        let text = self.text.as_bytes();
+        let last = digits.as_bytes().get(RID)?;
         let mut best = ("", None);
         for (aid, name) in &self.aids {
+            if text.get(aid.0.saturating_add(RID)) != Some(last) {
+                continue;
+            }
             let aid = self.words(*aid);
             if best.0.len() < aid.len() && digits.starts_with(aid) {
                 best = (aid, Some(self.words(*name)));

@@ -159,16 +159,16 @@ fn whole(
     }) brought.now status.now) }
 {
     let (way, moved, answer) = parts(sent, brought);
-    let mut header = copied(alloc, header)?;
+    let mut header = copied(alloc, header, 1)?;
     push(&mut header, p3)?;
     Ok(Tpdu {
         header,
         tally: Tally::NONE,
         way,
-        moved: copied(alloc, moved)?,
-        status: copied(alloc, status)?,
+        moved: copied(alloc, moved, 0)?,
+        status: copied(alloc, status, 0)?,
         le,
-        answer: copied(alloc, answer)?,
+        answer: copied(alloc, answer, 0)?,
         is_loose: false,
         line: 0,
         blocks: BlockRows::new(alloc),
@@ -188,11 +188,11 @@ fn parts<'a>(sent: &'a [u8], brought: &'a [u8]) -> (Option<Direction>, &'a [u8],
     }
 }
 
-/// Returns a copy of the bytes.
-fn copied(alloc: Global, bytes: &[u8]) -> Result<Vec<u8>, AllocError>
+/// Returns a copy of the bytes, with room for as many more.
+fn copied(alloc: Global, bytes: &[u8], more: usize) -> Result<Vec<u8>, AllocError>
     ensures { IfOk result (λ all. all.items ≡ bytes.now) }
 {
-    let mut all = Vec::new(alloc);
+    let mut all = Vec::with_capacity(alloc, bytes.len().saturating_add(more))?;
     all.extend_from_slice(bytes)?;
     Ok(all)
 }

@@ -121,6 +121,17 @@ pub fn push(bytes: &mut Vec<u8>, byte: u8) -> Result<(), AllocError>
     bytes.push(byte).map_err(AllocError::from)
 }
 
+/// Appends bytes. Returns `AllocError` if memory ran out: `bytes` is unchanged.
+pub fn append(bytes: &mut Vec<u8>, more: Vec<u8>) -> Result<(), AllocError>
+    ensures { OnOk result (bytes.new.items ≡ bytes.old.items ++ more.items) }
+{
+    if bytes.is_empty() {
+        *bytes = more;
+        return Ok(());
+    }
+    bytes.extend_from_slice(more.as_slice())
+}
+
 /// Returns the byte of two hexadecimal digits; `None` if one of them is not one.
 pub fn byte_of(high: u8, low: u8) -> Option<u8>
     ensures { result ≡ byte_of (hex_digit_value high) (hex_digit_value low) }

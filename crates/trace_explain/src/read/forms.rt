@@ -15,6 +15,9 @@ const ESC: u8 = 0x1B;
 /// The form of a log without `--form`.
 pub const LOG: &str = "pcsc";
 
+/// The place of the first form of a file in rows of characters: behind the program's forms.
+pub const OF_FILE: usize = 4096;
+
 /// The program's forms. Those of characters at T=0 come first.
 pub const FORMS: &str = "\
 form angle: characters
@@ -130,14 +133,17 @@ pub struct Forms<'t> {
     rows: Vec<Row>,
 }
 
-/// The two signs of the program's form at this place, the terminal's first.
+/// The two signs of the program's form at this place, the terminal's first; or words for the first
+/// form of a file.
 #[derive(Clone, Copy)]
 pub struct Signs(pub usize);
 
 impl fmt::Display for Signs {
     fn fmt<W: fmt::Write>(&self, f: &mut fmt::Formatter<W>) -> fmt::Result {
         let place = self.0.saturating_add(1);
-        let rows = FORMS.split("form ").nth(place).unwrap_or("");
+        let Some(rows) = FORMS.split("form ").nth(place) else {
+            return f.write_str("the first in the file of forms");
+        };
         let mut between = "";
         for line in rows.split('\n') {
             if let Some((_, pattern)) = line.split_once(": ")
@@ -235,12 +241,14 @@ impl<'t> Forms<'t> {
         Ok(chosen)
     }
 
-    /// Returns the rows of characters, of all forms.
-    pub fn of_characters(&self, alloc: Global) -> Result<Rows, AllocError> {
+    /// Returns the rows of characters, of all forms. The place of the first form becomes `first`.
+    pub fn of_characters(&self, alloc: Global, first: usize) -> Result<Rows, AllocError> {
         let mut chosen = Rows::none(alloc);
         for row in &self.rows {
             if !self.is_whole(row.form) {
-                chosen.push(row.copied()?)?;
+                let mut row = row.copied()?;
+                row.form = row.form.saturating_add(first);
+                chosen.push(row)?;
             }
         }
         Ok(chosen)
@@ -287,21 +295,28 @@ fn row_of(alloc: Global, form: usize, line: &str) -> Result<Option<Row>, AllocEr
     }))
 }
 
+/// What rows of each kind say.
+static KINDS: [(&str, Saying); 10] = [
+    ("command", Saying::Sends(End::Terminal)),
+    ("answer", Saying::Sends(End::Card)),
+    ("both", Saying::Both),
+    ("reset", Saying::Reset),
+    ("atr", Saying::Atr),
+    ("rest", Saying::Rest),
+    ("perhaps", Saying::Perhaps),
+    ("note", Saying::Note),
+    ("on", Saying::On),
+    ("off", Saying::Off),
+];
+
 /// Returns what a row of this kind says.
 fn saying_of(kind: &str) -> Option<Saying> {
-    Some(match kind.as_bytes() {
-        b"command" => Saying::Sends(End::Terminal),
-        b"answer" => Saying::Sends(End::Card),
-        b"both" => Saying::Both,
-        b"reset" => Saying::Reset,
-        b"atr" => Saying::Atr,
-        b"rest" => Saying::Rest,
-        b"perhaps" => Saying::Perhaps,
-        b"note" => Saying::Note,
-        b"on" => Saying::On,
-        b"off" => Saying::Off,
-        _ => return None,
-    })
+    for (name, says) in &KINDS {
+        if *name == kind {
+            return Some(*says);
+        }
+    }
+    None
 }
 
 /// Returns the parts of a pattern; `None` if a brace is open, or has no part's name in it.
@@ -341,23 +356,28 @@ fn parts_of(alloc: Global, pattern: &[u8]) -> Result<Option<Vec<Part>>, AllocErr
 
 /// Returns the part with this name, if its field ends so.
 fn part_of(name: &[u8], stop: Stop) -> Option<Part> {
-    Some(match name {
-        b"any" => Part::Any(stop),
-        b"bytes" => Part::Bytes(stop),
-        b"short" => Part::Short(stop),
-        b"status" => Part::Status(stop),
-        b"count" => Part::Count(stop),
-        b"column" => Part::Bytes(Stop::Column),
-        b"dump" => Part::Bytes(Stop::Dump),
-        b"colour" => Part::Any(Stop::End),
-        b"row" => Part::Row,
-        b"zeros" => Part::Zeros,
-        b"spaces" => Part::Spaces,
-        b"time" => Part::Time,
-        b"prefix" => Part::Prefix,
-        b"more" => Part::More,
-        _ => Part::Skip(number_of(name.strip_prefix(b"skip ")?)?),
-    })
+    let parts = [
+        ("any", Part::Any(stop)),
+        ("bytes", Part::Bytes(stop)),
+        ("short", Part::Short(stop)),
+        ("status", Part::Status(stop)),
+        ("count", Part::Count(stop)),
+        ("column", Part::Bytes(Stop::Column)),
+        ("dump", Part::Bytes(Stop::Dump)),
+        ("colour", Part::Any(Stop::End)),
+        ("row", Part::Row),
+        ("zeros", Part::Zeros),
+        ("spaces", Part::Spaces),
+        ("time", Part::Time),
+        ("prefix", Part::Prefix),
+        ("more", Part::More),
+    ];
+    for (text, part) in parts {
+        if text.as_bytes() == name {
+            return Some(part);
+        }
+    }
+    Some(Part::Skip(number_of(name.strip_prefix(b"skip ")?)?))
 }
 
 /// Returns where a field ends before this rest of a pattern.

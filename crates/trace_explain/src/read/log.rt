@@ -8,6 +8,7 @@ ghost use Rattle.trace_explain.specs.Logs.{IsBadIn, IsTooMuch, IsNoMemory, IsTwo
 
 use crate::follow::tpdu::are_status;
 use crate::instructions::instruction;
+use crate::read::digits::append;
 use crate::read::entry::Entry;
 use crate::read::form_row::{Found, Rows, Saying, read_rows};
 use crate::read::pattern::Marks;
@@ -303,8 +304,8 @@ impl Log {
         ensures { OnOk result (Took (continued (log_at self.old) from (marked_by marks) next)
             entries.old.items entries.new.items self.new) }
     {
-        self.bytes.extend_from_slice(marks.bytes.as_slice())?;
-        self.status.extend_from_slice(marks.status.as_slice())?;
+        append(&mut self.bytes, marks.bytes)?;
+        append(&mut self.status, marks.status)?;
         self.pending = next;
         match next {
             Open::Nothing => self.close(from, entries),
@@ -319,7 +320,7 @@ impl Log {
     {
         let mut bytes = self.cut();
         let status = mem::replace(&mut self.status, Vec::new(self.alloc));
-        bytes.extend_from_slice(status.as_slice())?;
+        append(&mut bytes, status)?;
         match from {
             End::Terminal => {
                 self.command = Some(bytes);

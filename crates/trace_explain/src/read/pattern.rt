@@ -1,8 +1,8 @@
 //! Patterns of lines: what each part marks in a line, and what follows it.
-ghost use Rattle.std.specs.Prelude.{◌≡◌, ◌≤◌, Some, None, IfOk, IfErr, OnOk, length, replicate};
+ghost use Rattle.std.specs.Prelude.{◌≡◌, ◌≤◌, Some, None, IfOk, IfErr, OnOk, false, length, replicate};
 ghost use Rattle.trace_explain.specs.Patterns.{IsBadField, all_of, begun, behind, behind_field, behind_prefix, behind_row, column, dump, ends_word, field, has_gap, is_of_prefix, marked, marked_by, marks_in, number_in, row, row_in, unmarked, with_bytes};
 
-use crate::read::digits::spelled;
+use crate::read::digits::{append, spelled};
 use crate::read::time::{behind_spaces, behind_time, place_of};
 use crate::read::trace_line::LineFault;
 use std::alloc::{AllocError, Global};
@@ -76,6 +76,7 @@ pub struct Marks {
 
 /// Returns what follows a part at the beginning of a line; `None` if the line begins otherwise.
 /// `left` is the number of bytes that are left of a dump.
+#[inline(always)]
 pub fn behind(part: Part, left: usize, line: &[u8]) -> Option<&[u8]>
     ensures { elim result [ None ↦ None | Some rest ↦ Some rest.now ]
         ≡ behind part left line.now }
@@ -122,6 +123,19 @@ pub fn begun<'a>(parts: &[Part], line: &'a [u8]) -> Option<&'a [u8]>
     Some(rest)
 }
 
+/// Whether these parts may be the whole line, whatever their fields spell. In a dump they may.
+fn may_be(parts: &[Part], left: usize, line: &[u8]) -> bool
+    ensures { result ≡ false → marks_in parts.now left line.now ≡ None }
+{
+    if left > 0 {
+        return true;
+    }
+    match begun(parts, line) {
+        Some(rest) => rest.is_empty(),
+        None => false,
+    }
+}
+
 /// Returns what these parts mark if they are the whole line.
 ///
 /// # Errors
@@ -132,6 +146,9 @@ pub fn marks_in(alloc: Global, parts: &[Part], left: usize, line: &[u8]) -> Resu
     ensures says { IfOk result (λ m. marks_in parts.now left line.now ≡ Some (marked_by m)) }
     ensures refused { IfErr result (λ why. IsBadField why (marks_in parts.now left line.now)) }
 {
+    if !may_be(parts, left, line) {
+        return Err(LineFault::Hex);
+    }
     let mut marks = Marks::none(alloc);
     let mut rest = line;
     for &part in parts {
@@ -176,8 +193,7 @@ impl Marks {
             Part::Row => self.take_bytes(row(alloc, left, line)?)?,
             Part::Zeros => self.take_bytes(zeros(alloc, left)?)?,
             Part::Status(stop) => {
-                let status = spelled(alloc, false, field(stop, line))?;
-                self.status.extend_from_slice(status.as_slice())?;
+                append(&mut self.status, spelled(alloc, false, field(stop, line))?)?;
             }
             Part::Count(stop) => {
                 self.count = number_of(field(stop, line)).ok_or(LineFault::Hex)?;
@@ -200,7 +216,7 @@ impl Marks {
         ensures { IfOk result (λ bytes. bytes.items ≡ all_of (marked_by self)) }
     {
         let mut bytes = self.bytes;
-        bytes.extend_from_slice(self.status.as_slice())?;
+        append(&mut bytes, self.status)?;
         Ok(bytes)
     }
 
@@ -209,11 +225,7 @@ impl Marks {
         ensures { OnOk result (Some (marked_by self.new)
             ≡ with_bytes (marked_by self.old) (Some bytes.items)) }
     {
-        if self.bytes.is_empty() {
-            self.bytes = bytes;
-            return Ok(());
-        }
-        self.bytes.extend_from_slice(bytes.as_slice())
+        append(&mut self.bytes, bytes)
     }
 }
 

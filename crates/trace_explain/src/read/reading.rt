@@ -7,7 +7,7 @@ ghost use Rattle.trace_explain.specs.Turns.{sender};
 use crate::read::entry::Source;
 use crate::read::files::FileList;
 use crate::read::form_row::Rows;
-use crate::read::forms::{Forms, LOG};
+use crate::read::forms::{Forms, LOG, OF_FILE};
 use crate::read::time::are_decimal;
 use crate::read::ways::Ways;
 use std::alloc::{AllocError, Global};
@@ -45,9 +45,9 @@ impl Options<'_> {
     ///
     /// - `AllocError`: memory ran out.
     pub fn reading(&self, alloc: Global, forms: &Forms<'_>) -> Result<Reading, AllocError> {
-        let form = match self.file {
-            Some(_) => Some(0),
-            None => self.form.and_then(|name| forms.place_of(name)),
+        let (form, first) = match self.file {
+            Some(_) => (Some(0), OF_FILE),
+            None => (self.form.and_then(|name| forms.place_of(name)), 0),
         };
         let is_whole = form.is_some_and(|place| forms.is_whole(place));
         let of_tpdus = self.of_tpdus || is_whole;
@@ -55,11 +55,11 @@ impl Options<'_> {
             let place = form.or(forms.place_of(LOG)).unwrap_or(0);
             forms.of_log(alloc, place, self.swaps)?
         } else {
-            forms.of_characters(alloc)?
+            forms.of_characters(alloc, first)?
         };
         Ok(Reading {
             rows,
-            form,
+            form: form.map(|place| place.saturating_add(first)),
             swaps: self.swaps,
             is_unsigned: self.is_unsigned,
             ways: self.ways,

@@ -43,6 +43,9 @@ impl Output {
     pub fn row(&mut self, side: Side, label: &str)
         ensures { Puts (IsRow side label.now) self.old.sheet self.new.sheet }
     {
+        if self.page.is_blank() {
+            return;
+        }
         self.page.wrap(ROW_INDENT.len());
         push_row_of(&mut self.sheet, side, label, &self.page.text);
         self.page.text.clear();

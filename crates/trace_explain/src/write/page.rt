@@ -93,6 +93,11 @@ impl Page {
         self.text.is_cut() || self.lines.is_cut()
     }
 
+    /// Whether there are no lines, and memory did not run out for them.
+    pub fn is_blank(&self) -> bool {
+        self.lines.is_empty() && !self.lines.is_cut()
+    }
+
     /// Whether TPDUs are joined to commands.
     pub fn joins(&self) -> bool {
         self.layout.joins

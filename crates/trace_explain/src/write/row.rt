@@ -9,6 +9,9 @@ use crate::write::sheet::Sheet;
 /// What precedes each further line of a row of text.
 pub const ROW_INDENT: &str = "               ";
 
+/// The most bytes that `are_plain` looks at.
+const RUN: usize = 128;
+
 /// Adds the start of a row: the sign of its end, if it is of one, and its label.
 pub fn push_before(sheet: &mut Sheet, side: Side, label: &str)
     ensures { Adds sheet.old (before sheet.old.layout.medium side label.now) sheet.new }
@@ -71,7 +74,12 @@ fn plain_front(medium: Medium, text: &[u8]) -> (&str, &[u8])
     ensures cut { text.now ≡ result.0.now ++ result.1.now }
     ensures plain { (indent : List ℕ) → letters medium indent result.0.now ≡ result.0.now }
 {
-    let (front, others) = text.split_at(plain_len(medium, text));
+    let (run, behind) = text.split_at(text.len().min(RUN));
+    let (front, others) = if are_plain(medium, run) {
+        (run, behind)
+    } else {
+        text.split_at(plain_len(medium, text))
+    };
     match str::from_utf8(front) {
         Ok(front) => (front, others),
         Err(_) => ("", text),
@@ -90,6 +98,18 @@ fn plain_len(medium: Medium, text: &[u8]) -> usize
         }
     }
     text.len()
+}
+
+/// Whether `push_letter` adds these bytes as they are. It looks at all: a processor does that for
+/// several at once.
+fn are_plain(medium: Medium, bytes: &[u8]) -> bool
+    ensures { result ≡ true → (indent : List ℕ) → letters medium indent bytes.now ≡ bytes.now }
+{
+    let mut are = true;
+    for &byte in bytes {
+        are &= is_plain(medium, byte);
+    }
+    are
 }
 
 /// Whether `push_letter` adds this byte as it is.

@@ -1,7 +1,7 @@
-use Rattle.std.proofs.Common.{◌≡◌, ◌∙◌, ◌==◌, ◌&&◌, [], ◌∷◌, Bool, false, true, not, ap, length, subst, sym, if◌then◌else◌, inl, inr, refl, List}
+use Rattle.std.proofs.Common.{◌≡◌, ◌∙◌, ◌==◌, ◌&&◌, [], ◌∷◌, Bool, false, true, not, ap, length, subst, sym, inl, inr, refl}
 use Rattle.trace_explain.specs.declared.follow.listener.Listener.{Listener}
 use Rattle.trace_explain.specs.declared.follow.tpdu.Mark.{Mark}
-use Rattle.trace_explain.specs.Noted.{Event, HasNoted, Passed, Reset}
+use Rattle.trace_explain.specs.Noted.{HasNoted, Passed, Reset}
 use Rattle.trace_explain.specs.Openings.{Opening, begins_answer, is_block, is_loose, opening_of, opens}
 use Rattle.trace_explain.specs.Explained.{position_of}
 use Rattle.trace_explain.specs.Lines.{Position}

@@ -1,6 +1,4 @@
-use Rattle.std.proofs.Common.{◌≡◌, ◌++◌, ℕ, ◌+◌, ◌-◌, ◌<◌, ◌≤◌, length, Bool, true, false, nat_lt, ◌==◌, arith, Some}
 use Rattle.std.proofs.lemmas.Result.{IfOk-weaker}
-use Rattle.trace_explain.specs.Pairs.{command_in, with_p3}
 use Rattle.trace_explain.proofs.LogLemmas.{command_by}
 use Rattle.trace_explain.proofs.follow.pair.tpdu_of.Goals as goal
 

@@ -14,20 +14,13 @@ constructed tag is = of (is_constructed tag) is where
 pub listing-preserved-then-has : goal.listing-preserved-then-has
 listing-preserved-then-has t c =
     let g = c.in-Some.ensures.steps in
-    past_masked c.args.mask.now.tags.items c.args.objects c.listing.objects c.next.new.self
-    c.args.sheet.now c.listing.sheet c.push_object.new.sheet c.push_str.new.self c.listing.first
-    g.0.0 c.in-Some.object.tag c.in-Some.object.size c.in-Some.object.value c.tag-tag.result
-    c.listing.invariant g.0.1 g.2 c.tag-tag.ensures (c.has.ensures.0 c.if-has.true)
+    past_masked c.listing.invariant g.0.1 g.2 c.tag-tag.ensures (c.has.ensures.0 c.if-has.true)
     c.push_object.ensures c.push_str.ensures
 
 pub listing-preserved-in-Some-children : goal.listing-preserved-in-Some-children
 listing-preserved-in-Some-children t c =
     let g = c.in-Some.ensures.steps in
-    past_template c.args.mask.now.tags.items c.args.objects c.listing.objects c.next.new.self
-    c.in-Some-children.children c.args.sheet.now c.listing.sheet c.push_object.new.sheet
-    c.push_names.new.sheet c.push_objects.new.sheet c.push_str-in-Some-children.new.self
-    c.listing.first g.0.0 c.in-Some.object.tag c.in-Some.object.size c.in-Some.object.value
-    c.tag-tag.result c.in-Some.object.level c.listing.invariant g.0.1 g.2 c.tag-tag.ensures g.1
+    past_template c.listing.invariant g.0.1 g.2 c.tag-tag.ensures g.1
     (λ h. let e = c.has.ensures.1 h in absurd (cc (e, c.if-has.false)))
     (constructed c.in-Some.object.tag
     (λ no. let e = c.in-Some-children.ensures.primitive.1 no in absurd (cc)))
@@ -37,12 +30,8 @@ listing-preserved-in-Some-children t c =
 pub listing-preserved : goal.listing-preserved
 listing-preserved t c =
     let g = c.in-Some.ensures.steps in
-    past_primitive c.args.mask.now.tags.items c.args.objects c.listing.objects c.next.new.self
-    c.args.sheet.now c.listing.sheet c.push_object.new.sheet
-    c.push_names-in_default-children.new.sheet c.push_primitive.new.sheet c.listing.first g.0.0
-    c.in-Some.object.tag c.in-Some.object.size c.in-Some.object.value c.tag-tag.result
-    c.value.result.now c.listing.invariant g.0.1 g.2 c.tag-tag.ensures
-    c.value.ensures (λ h. let e = c.has.ensures.1 h in absurd (cc (e, c.if-has.false)))
+    past_primitive c.listing.invariant g.0.1 g.2 c.tag-tag.ensures c.value.ensures
+    (λ h. let e = c.has.ensures.1 h in absurd (cc (e, c.if-has.false)))
     (c.in_default-children.ensures.primitive.0 refl) c.push_object.ensures
     c.push_names-in_default-children.ensures c.push_primitive.ensures
 
@@ -51,5 +40,5 @@ returns t c =
     let i = c.listing.invariant in (
       _,
       i.leads _ (no_object c.in_default.ensures.steps.0 c.list_end.ensures),
-      adds_both _ _ _ _ _ i.adds c.push_str-2.ensures,
+      adds_both i.adds c.push_str-2.ensures,
     )

@@ -15,8 +15,8 @@ returns-in-All c =
     in (
       text,
       subst S (sym c.in-All.is) (tree, is, refl),
-      adds_both _ _ _ _ _ (adds_both _ _ _ _ _ (subst N c.value_name.ensures c.push_str.ensures)
-          c.push_value.ensures) adds,
+      adds_both (adds_both (subst N c.value_name.ensures c.push_str.ensures) c.push_value.ensures)
+          adds,
     )
 
 pub returns-in-Objects : goal.returns-in-Objects
@@ -29,7 +29,7 @@ returns-in-Objects c =
     in (
       text,
       subst S (sym c.in-Objects.is) (tree, is, refl),
-      adds_both _ _ _ _ _ (adds_both _ _ _ _ _ (subst N c.value_name.ensures c.push_str.ensures)
+      adds_both (adds_both (subst N c.value_name.ensures c.push_str.ensures)
           c.push_str-in-Objects.ensures) adds,
     )
 
@@ -42,6 +42,5 @@ returns-in-Nothing c =
     in (
       text,
       subst S (sym c.in-Nothing.is) refl,
-      adds_both _ _ _ _ _ (subst N c.value_name.ensures c.push_str.ensures)
-          c.push_str-in-Nothing.ensures,
+      adds_both (subst N c.value_name.ensures c.push_str.ensures) c.push_str-in-Nothing.ensures,
     )

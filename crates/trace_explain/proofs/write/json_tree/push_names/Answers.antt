@@ -2,6 +2,4 @@ use Rattle.trace_explain.proofs.JsonTreeLemmas.{both_names}
 use Rattle.trace_explain.proofs.write.json_tree.push_names.Goals as goal
 
 pub returns : goal.returns
-returns c =
-    both_names c.args.sheet.now c.push_words.new.sheet c.push_words-2.new.sheet c.push_words.ensures
-    c.push_words-2.ensures
+returns c = both_names c.push_words.ensures c.push_words-2.ensures

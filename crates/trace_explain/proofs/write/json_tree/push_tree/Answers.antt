@@ -11,5 +11,5 @@ returns-in-Err c = (
     objects = λ may are.
         absurd (let no : false ≡ true = c.in-Err.ensures.objects.1 are in cc);
   },
-  adds_nothing c.args.sheet.now,
+  adds_nothing,
 )

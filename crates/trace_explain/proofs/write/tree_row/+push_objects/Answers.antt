@@ -13,23 +13,13 @@ constructed tag is = of (is_constructed tag) is where
 pub listing-preserved-then-has : goal.listing-preserved-then-has
 listing-preserved-then-has t c =
     let g = c.in-Some.ensures.steps in
-    past_masked c.args.mask.now.tags.items c.args.objects c.listing.objects c.next.new.self
-    c.args.lines.now c.listing.lines c.push_object.new.lines c.push_str.new.self c.listing.some
-    g.0.0 c.in-Some.object.tag c.in-Some.object.size c.in-Some.object.value c.tag-tag.result
-    c.level-level.result c.listing.invariant g.0.1 g.2 c.tag-tag.ensures
-    (c.level-level.ensures ∙ g.1) (c.has.ensures.0 c.if-has.true) c.push_object.ensures
-    c.push_str.ensures
+    past_masked c.listing.invariant g.0.1 g.2 c.tag-tag.ensures (c.level-level.ensures ∙ g.1)
+    (c.has.ensures.0 c.if-has.true) c.push_object.ensures c.push_str.ensures
 
 pub listing-preserved-in-Some-children : goal.listing-preserved-in-Some-children
 listing-preserved-in-Some-children t c =
     let g = c.in-Some.ensures.steps in
-    past_template c.args.mask.now.tags.items c.args.objects c.listing.objects c.next.new.self
-    c.in-Some-children.children c.args.lines.now c.listing.lines c.push_object.new.lines
-    c.push_remark.new.lines c.push_objects.new.lines c.listing.some c.push_objects.result g.0.0
-    c.in-Some.object.tag c.in-Some.object.size c.in-Some.object.value c.tag-tag.result
-    c.level-level.result
-    c.in-Some.object.level c.listing.invariant g.0.1 g.2 c.tag-tag.ensures
-    (c.level-level.ensures ∙ g.1) g.1
+    past_template c.listing.invariant g.0.1 g.2 c.tag-tag.ensures (c.level-level.ensures ∙ g.1) g.1
     (λ h. let e = c.has.ensures.1 h in absurd (cc (e, c.if-has.false)))
     (constructed c.in-Some.object.tag
     (λ no. let e = c.in-Some-children.ensures.primitive.1 no in absurd (cc)))
@@ -39,11 +29,8 @@ listing-preserved-in-Some-children t c =
 pub listing-preserved : goal.listing-preserved
 listing-preserved t c =
     let g = c.in-Some.ensures.steps in
-    past_primitive c.args.mask.now.tags.items c.args.objects c.listing.objects c.next.new.self
-    c.args.lines.now c.listing.lines c.push_object.new.lines c.push_value.new.lines
-    c.listing.some g.0.0 c.in-Some.object.tag c.in-Some.object.size c.in-Some.object.value
-    c.tag-tag.result c.value.result.now c.level-level.result c.listing.invariant g.0.1 g.2
-    c.tag-tag.ensures c.value.ensures (c.level-level.ensures ∙ g.1)
+    past_primitive c.listing.invariant g.0.1 g.2 c.tag-tag.ensures c.value.ensures
+    (c.level-level.ensures ∙ g.1)
     (λ h. let e = c.has.ensures.1 h in absurd (cc (e, c.if-has.false)))
     (c.in_default-children.ensures.primitive.0 refl) c.push_object.ensures c.push_value.ensures
 

@@ -2,5 +2,4 @@ use Rattle.trace_explain.proofs.SheetLemmas.{adds_both}
 use Rattle.trace_explain.proofs.write.words.push_most.Goals as goal
 
 pub returns : goal.returns
-returns c = adds_both _ _ _ _ _ (adds_both _ _ _ _ _ c.push_str.ensures c.push_number.ensures)
-    c.push_str-2.ensures
+returns c = adds_both (adds_both c.push_str.ensures c.push_number.ensures) c.push_str-2.ensures

@@ -2,9 +2,8 @@ use Rattle.trace_explain.proofs.SheetLemmas.{none_joined, piece_joined}
 use Rattle.trace_explain.proofs.write.words.push_pieces.Goals as goal
 
 pub pieces-init : goal.pieces-init
-pieces-init c = none_joined c.args.sheet.now
+pieces-init c = none_joined
 
 pub pieces-preserved : goal.pieces-preserved
-pieces-preserved c =
-    piece_joined _ c.cut.result.0.now c.args.sheet.now c.pieces.sheet c.push_piece.new.sheet
-    c.piece-item.result.own c.pieces.invariant c.push_piece.ensures
+pieces-preserved c = piece_joined _ c.cut.result.0.now c.piece-item.result.own c.pieces.invariant
+    c.push_piece.ensures

@@ -1,4 +1,4 @@
-use Rattle.std.proofs.Common.{◌≡◌, ◌∙◌, ap, false, Option, Some}
+use Rattle.std.proofs.Common.{◌∙◌, ap, false, Option, Some}
 use Rattle.std.specs.Option.{option_map, unwrap_or}
 use Rattle.t1_core.specs.declared.settings.Edc.{Edc}
 use Rattle.trace_explain.specs.declared.follow.blocks.Blocks.{Blocks}

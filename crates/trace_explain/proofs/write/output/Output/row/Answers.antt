@@ -1,6 +1,10 @@
-use Rattle.std.proofs.Common.{refl}
+use Rattle.std.proofs.Common.{[], refl}
 use Rattle.std.specs.String.{string_bytes}
+use Rattle.trace_explain.proofs.SheetLemmas.{adds_nothing}
 use Rattle.trace_explain.proofs.write.output.Output.row.Goals as goal
+
+pub returns-then-is_blank : goal.returns-then-is_blank
+returns-then-is_blank c = ([], ([], refl), adds_nothing)
 
 pub returns : goal.returns
 returns c =

@@ -3,8 +3,8 @@ use Rattle.trace_explain.proofs.write.sheet.Sheet.push_hex.Goals as goal
 
 pub loop-byte-preserved : goal.loop-byte-preserved
 loop-byte-preserved c = hex_more c.args.bytes.now c.loop-byte.byte-index c.loop-byte-test.true
-    c.loop-byte.invariant (adds_as _ _ _ _ c.digit.ensures c.push.ensures)
-    (adds_as _ _ _ _ c.digit-in-loop-byte.ensures c.push-in-loop-byte.ensures)
+    c.loop-byte.invariant (adds_as c.digit.ensures c.push.ensures)
+    (adds_as c.digit-in-loop-byte.ensures c.push-in-loop-byte.ensures)
 
 pub returns : goal.returns
 returns c = hex_done c.args.bytes.now c.loop-byte.byte-index c.loop-byte-test.false

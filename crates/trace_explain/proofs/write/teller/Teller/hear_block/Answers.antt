@@ -1,4 +1,4 @@
-use Rattle.std.proofs.Common.{◌≡◌, ◌∙◌, ap, sym}
+use Rattle.std.proofs.Common.{◌∙◌, ap, sym}
 use Rattle.trace_explain.specs.Overheard.{Overheard, answered, overheard_by}
 use Rattle.trace_explain.proofs.AccountLemmas.{boxes_from}
 use Rattle.trace_explain.proofs.CarriedLemmas.{carries_as, carries_is, reports_some}

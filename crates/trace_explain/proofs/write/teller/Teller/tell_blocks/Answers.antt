@@ -11,7 +11,7 @@ returns-then-not-is_answered-clause-heard c = λ events before h.
     let none : o.is_answered ≡ false = ap (λ (x : Overheard). x.is_answered)
     (sym c.begin_blocks.ensures.same) ∙ sym c.if-not-is_answered.ensures in
     on_ok_too c.outcome.result _ _ c.outcome.ensures.whole (λ w.
-    carries_is (sym (answered_none o none)) (carries_none events before c.args.listener.now h
+    carries_is (sym (answered_none o none)) (carries_none h
     (boxes_from c.begin_blocks.ensures.stays (boxes_none refl refl refl c.outcome.ensures.joins))))
 
 pub returns-clause-heard : goal.returns-clause-heard

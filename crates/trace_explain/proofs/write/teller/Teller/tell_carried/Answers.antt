@@ -1,4 +1,4 @@
-use Rattle.std.proofs.Common.{◌≡◌, List, ℕ, refl, subst}
+use Rattle.std.proofs.Common.{List, ℕ, subst}
 use Rattle.trace_explain.specs.Overheard.{overheard_by}
 use Rattle.trace_explain.specs.Pairs.{IsBadPair, IsPair}
 use Rattle.trace_explain.proofs.AccountLemmas.{boxes_from, boxes_stay}

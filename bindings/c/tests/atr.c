@@ -5,39 +5,55 @@
 
 #define BYTES(s) (const uint8_t *)(s), sizeof(s) - 1
 
+/* Each number of an answer: its name, its offset and its size, on which the archive relies. */
+#define FIELDS(FIELD) \
+    FIELD(length, 0, 8) \
+    FIELD(historical, 8, 8) \
+    FIELD(historical_count, 16, 8) \
+    FIELD(category, 24, 1) \
+    FIELD(convention, 25, 1) \
+    FIELD(protocol_count, 26, 1) \
+    FIELD(names_15, 42, 1) \
+    FIELD(rate_code, 43, 1) \
+    FIELD(di, 44, 1) \
+    FIELD(extra_guard_time, 45, 1) \
+    FIELD(waiting_integer, 46, 1) \
+    FIELD(specific, 47, 1) \
+    FIELD(specific_t, 48, 1) \
+    FIELD(can_change, 49, 1) \
+    FIELD(implicit, 50, 1) \
+    FIELD(clock_stop, 51, 1) \
+    FIELD(classes, 52, 1) \
+    FIELD(fi, 54, 2) \
+    FIELD(max_khz, 56, 2) \
+    FIELD(guard_etu, 58, 2) \
+    FIELD(guard_etu_t1, 60, 2) \
+    FIELD(guard_indicated, 62, 2) \
+    FIELD(waiting_time, 64, 4) \
+    FIELD(t1.ifsc, 72, 1) \
+    FIELD(t1.edc, 73, 1) \
+    FIELD(t1.bwi, 74, 1) \
+    FIELD(t1.cwi, 75, 1) \
+    FIELD(t1.cwt_etu, 76, 2) \
+    FIELD(t1.bwt_etu, 78, 2) \
+    FIELD(t1.bgt_etu, 80, 2) \
+    FIELD(t1.bwt_cycles, 88, 8)
+
+#define IS_AT(name, at, size) \
+    CHECK(offsetof(gt_atr, name), at); \
+    CHECK(sizeof ((gt_atr *)0)->name, size);
+#define IS_SAME(name, at, size) CHECK(got->name, want->name);
+
+static void layout(void) {
+    FIELDS(IS_AT)
+    IS_AT(protocols, 27, 15)
+    IS_AT(t1, 72, 24)
+    CHECK(sizeof(gt_atr), 96);
+}
+
 static void is_atr(const gt_atr *got, const gt_atr *want) {
-    CHECK(got->length, want->length);
-    CHECK(got->historical, want->historical);
-    CHECK(got->historical_count, want->historical_count);
-    CHECK(got->category, want->category);
-    CHECK(got->convention, want->convention);
-    CHECK(got->protocol_count, want->protocol_count);
+    FIELDS(IS_SAME)
     CHECK_BYTES(got->protocols, want->protocols, sizeof want->protocols);
-    CHECK(got->names_15, want->names_15);
-    CHECK(got->rate_code, want->rate_code);
-    CHECK(got->di, want->di);
-    CHECK(got->extra_guard_time, want->extra_guard_time);
-    CHECK(got->waiting_integer, want->waiting_integer);
-    CHECK(got->specific, want->specific);
-    CHECK(got->specific_t, want->specific_t);
-    CHECK(got->can_change, want->can_change);
-    CHECK(got->implicit, want->implicit);
-    CHECK(got->clock_stop, want->clock_stop);
-    CHECK(got->classes, want->classes);
-    CHECK(got->fi, want->fi);
-    CHECK(got->max_khz, want->max_khz);
-    CHECK(got->guard_etu, want->guard_etu);
-    CHECK(got->guard_etu_t1, want->guard_etu_t1);
-    CHECK(got->guard_indicated, want->guard_indicated);
-    CHECK(got->waiting_time, want->waiting_time);
-    CHECK(got->t1.ifsc, want->t1.ifsc);
-    CHECK(got->t1.edc, want->t1.edc);
-    CHECK(got->t1.bwi, want->t1.bwi);
-    CHECK(got->t1.cwi, want->t1.cwi);
-    CHECK(got->t1.cwt_etu, want->t1.cwt_etu);
-    CHECK(got->t1.bwt_etu, want->t1.bwt_etu);
-    CHECK(got->t1.bgt_etu, want->t1.bgt_etu);
-    CHECK(got->t1.bwt_cycles, want->t1.bwt_cycles);
 }
 
 /* Answers that together give each field another value than 0. In the fields' order:
@@ -137,47 +153,17 @@ static void codes(void) {
     }
 }
 
-/* Each code of BWI and CWI, of IFSC and of EDC (clause 11). */
-static void codes_of_t_1(void) {
-    unsigned code;
-    for (code = 0; code < 256; code++) {
-        const unsigned bwi = code / 16, cwi = code % 16;
-        gt_atr atr = with("\x3B\x80\x81\x21\x00\x00", 6, 4, code, true);
-        CHECK(atr.t1.bwi, bwi < 10 ? bwi : 0);
-        CHECK(atr.t1.bwt_etu, bwi < 10 ? 11 : 0);
-        CHECK(atr.t1.bwt_cycles, bwi < 10 ? 960 * 372 << bwi : 0);
-        CHECK(atr.t1.cwi, cwi);
-        CHECK(atr.t1.cwt_etu, 11 + (1 << cwi));
-        atr = with("\x3B\x80\x81\x11\x00\x00", 6, 4, code, true);
-        CHECK(atr.t1.ifsc, code < 255 ? code : 0);
-        atr = with("\x3B\x80\x81\x41\x00\x00", 6, 4, code, true);
-        CHECK(atr.t1.edc, code == 0 ? GT_LRC : code == 1 ? GT_CRC : 0);
-    }
-}
-
-static void asks(uint8_t t, const uint16_t pps[3], const char *want, size_t size) {
-    uint8_t request[GT_PPS_LIMIT] = { 0xEE };
-    size_t n = 99;
-    CHECK(gt_pps_request(t, pps[0], pps[1], pps[2], request, &n), want ? GT_OK : GT_ARGUMENT);
-    CHECK(n, want ? size : 99);
-    CHECK_BYTES(request, want ? want : "\xEE", want ? size : 1);
-}
-
 /* 9.2: PPSS, PPS0 with T and a bit for each character that follows, PCK. */
 static void requests(void) {
-    static const uint16_t rows[][3] = {
-        { GT_ABSENT, GT_ABSENT, GT_ABSENT }, { 0x96, GT_ABSENT, GT_ABSENT },
-        { GT_ABSENT, 0x00, GT_ABSENT }, { GT_ABSENT, GT_ABSENT, 0xFF }, { 0x18, 0x01, 0x02 },
-        { 257, GT_ABSENT, GT_ABSENT }, { GT_ABSENT, 257, GT_ABSENT }, { GT_ABSENT, GT_ABSENT, 257 }
-    };
-    size_t i;
-    asks(15, rows[0], "\xFF\x0F\xF0", 3);
-    asks(1, rows[1], "\xFF\x11\x96\x78", 4);
-    asks(0, rows[2], "\xFF\x20\x00\xDF", 4);
-    asks(0, rows[3], "\xFF\x40\xFF\x40", 4);
-    asks(1, rows[4], "\xFF\x71\x18\x01\x02\x95", 6);
-    asks(16, rows[0], NULL, 0);
-    for (i = 5; i < 8; i++) asks(0, rows[i], NULL, 0);
+    uint8_t request[GT_PPS_LIMIT];
+    size_t n = 0;
+    CHECK(gt_pps_request(0, GT_ABSENT, 0x00, GT_ABSENT, request, &n), GT_OK);
+    CHECK(n, 4);
+    CHECK_BYTES(request, "\xFF\x20\x00\xDF", 4);
+    CHECK(gt_pps_request(1, 0x18, 0x01, 0x02, request, &n), GT_OK);
+    CHECK(n, 6);
+    CHECK_BYTES(request, "\xFF\x71\x18\x01\x02\x95", 6);
+    CHECK(gt_pps_request(0, 257, GT_ABSENT, GT_ABSENT, request, &n), GT_ARGUMENT);
 }
 
 /* 9.3: the response has the same T, and each of PPS1 to PPS3 as in the request, or not at all. */
@@ -208,9 +194,9 @@ static void responses(void) {
 }
 
 int main(void) {
+    layout();
     answers();
     codes();
-    codes_of_t_1();
     requests();
     responses();
     return check_result("atr");

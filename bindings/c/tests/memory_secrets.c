@@ -1,18 +1,9 @@
 /* Tests that no block of memory, held or freed, has a piece of a value that the card no longer
- * holds, however the value's chain ended. The linker replaces malloc and free in heap.c by the
- * functions below. */
+ * holds, however the value's chain ended. The linker replaces malloc and free in heap.c. */
 #include "galliumtoad.h"
 #include "check.h"
 
-#include <stdlib.h>
-
-void *__real_malloc(size_t n);
-void __real_free(void *block);
-void *__wrap_malloc(size_t n);
-void *__wrap_realloc(void *block, size_t n);
-void __wrap_free(void *block);
-
-enum { MOST = 4096, PIECE = 255, LONG = 600, FRONT = 4, FIELD = 254 };
+enum { PIECE = 255, LONG = 600, FRONT = 4, FIELD = 254 };
 enum { TAG = 0x5F20, TEMPLATE = 0x70, LOCKED = 0x50 };
 
 static const uint8_t AID[] = { 0xA0, 0x00, 0x00, 0x00, 0x03, 0x10, 0x10 };
@@ -20,9 +11,7 @@ static const uint8_t ANN[] = { 0x41, 0x4E, 0x4E };
 
 /* The value. Each byte follows from the one before it, so any FRONT bytes in a row identify it. */
 static uint8_t secret[GT_VALUE_LIMIT + PIECE];
-static struct { unsigned char *at; size_t size; } blocks[MOST];
 static size_t given_back; /* freed blocks that had a piece of the value */
-static bool is_refused;
 
 static uint8_t behind(uint8_t byte) {
     return (uint8_t)(byte * 5 + 113);
@@ -44,33 +33,9 @@ static bool has_piece(const unsigned char *at, size_t n) {
     return has_row(at, n, 1) || has_row(at, n, 2);
 }
 
-void *__wrap_malloc(size_t n) {
-    size_t i;
-    void *block = is_refused ? NULL : __real_malloc(n);
-    for (i = 0; i < MOST && blocks[i].at; i++) {}
-    if (i == MOST) abort();
-    if (block) {
-        blocks[i].at = block;
-        blocks[i].size = n;
-        memset(block, 0, n);
-    }
-    return block;
-}
+static void looks_at(const unsigned char *at, size_t n) { given_back += has_piece(at, n); }
 
-void __wrap_free(void *block) {
-    size_t i;
-    for (i = 0; i < MOST && blocks[i].at != block; i++) {}
-    if (i == MOST) abort();
-    given_back += has_piece(blocks[i].at, blocks[i].size);
-    blocks[i].at = NULL;
-    __real_free(block);
-}
-
-void *__wrap_realloc(void *block, size_t n) {
-    (void)block;
-    (void)n;
-    abort();
-}
+#include "wrapped_heap.h"
 
 /* Counts the held blocks that have a piece of the value. */
 static size_t held(void) {

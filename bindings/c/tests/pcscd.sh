@@ -1,28 +1,10 @@
 # Shared by scripts that start their own pcscd: they set `build`, and source this. The machine's
-# settings stay as they are, and a running pcscd is left alone. If something can't be tried here,
-# they print 'skipped: WHAT, since REASON'. Their last line is 'N passed, N failed', with ', N
-# skipped' if needed.
+# settings stay as they are, and a running pcscd is left alone. Their counts are those of counts.sh.
 # shellcheck shell=bash
 room=$(mktemp -d)
 pcscd=
-passed=0
-failed=0
-skipped=0
-
-skip() {
-  echo "skipped: $1, since $2"
-  skipped=$((skipped + 1))
-}
-
-sum() {
-  if [ "$skipped" -gt 0 ]; then
-    echo "$passed passed, $failed failed, $skipped skipped"
-  else
-    echo "$passed passed, $failed failed"
-  fi
-  [ "$failed" -eq 0 ]
-  exit
-}
+# shellcheck source=counts.sh
+. "${BASH_SOURCE[0]%/*}/counts.sh"
 
 stop_pcscd() {
   if [ -n "$pcscd" ]; then
@@ -95,10 +77,7 @@ run() {
 need_pcscd() {
   local needed
   for needed in pcscd pkg-config pgrep; do
-    if ! command -v "$needed" > /dev/null; then
-      skip "$1" "there is no $needed"
-      sum
-    fi
+    has "$needed" "$1" || sum
   done
   if ! pkg-config --exists libpcsclite; then
     skip "$1" "there is no libpcsclite with its headers"

@@ -80,7 +80,7 @@ static void cut_words(void) {
     CHECK(gt_status_words(0, 0, 0x6700, NULL, 9), 12);
 }
 
-/* The numbers in fields of an answer to reset, and the version. */
+/* The numbers in fields of an answer to reset, those of T=1, and the version. */
 static void numbers(void) {
     CHECK(GT_TERMINAL, 0);
     CHECK(GT_CARD, 1);
@@ -100,15 +100,29 @@ static void numbers(void) {
     CHECK(GT_HISTORY_RESERVED, 4);
     CHECK(GT_HISTORY_OWN, 5);
     CHECK(GT_ABSENT, 256);
+    CHECK(GT_LRC, 1);
+    CHECK(GT_CRC, 2);
+    CHECK(GT_NOT_CARRIED_OUT, 0);
+    CHECK(GT_UNKNOWN, 1);
+    CHECK(GT_IN_PART, 2);
     CHECK(GT_VERSION, 0x000300);
 }
 
-/* The offset of each field, which the archive relies on. */
+/* An empty handle, and the offset of each field, which the archive relies on. */
+#define IS_HANDLE(type) do { \
+        const type empty = GT_INIT; \
+        CHECK(sizeof empty, 16); \
+        CHECK(offsetof(type, live), 0); \
+        CHECK(offsetof(type, held), 8); \
+        CHECK(empty.live || empty.held, 0); \
+    } while (0)
+
 static void layouts(void) {
-    const gt_exchange e = GT_INIT;
-    const gt_terminal t = GT_INIT;
-    const gt_card c = GT_INIT;
-    const gt_session s = GT_INIT;
+    IS_HANDLE(gt_exchange);
+    IS_HANDLE(gt_terminal);
+    IS_HANDLE(gt_card);
+    IS_HANDLE(gt_session);
+    IS_HANDLE(gt_t1);
     CHECK(sizeof(gt_object), 40);
     CHECK(offsetof(gt_object, tag), 0);
     CHECK(offsetof(gt_object, level), 4);
@@ -120,65 +134,10 @@ static void layouts(void) {
     CHECK(sizeof(gt_character), 2);
     CHECK(offsetof(gt_character, from), 0);
     CHECK(offsetof(gt_character, byte), 1);
-    CHECK(sizeof e, 16);
-    CHECK(offsetof(gt_exchange, live), 0);
-    CHECK(offsetof(gt_exchange, held), 8);
-    CHECK(sizeof t, 16);
-    CHECK(offsetof(gt_terminal, live), 0);
-    CHECK(offsetof(gt_terminal, held), 8);
-    CHECK(sizeof c, 16);
-    CHECK(offsetof(gt_card, live), 0);
-    CHECK(offsetof(gt_card, held), 8);
-    CHECK(sizeof s, 16);
-    CHECK(offsetof(gt_session, live), 0);
-    CHECK(offsetof(gt_session, held), 8);
-    CHECK(e.live || e.held, 0);
-    CHECK(t.live || t.held, 0);
-    CHECK(c.live || c.held, 0);
-    CHECK(s.live || s.held, 0);
-}
-
-#define FIELD(name, at, size) do { \
-        CHECK(offsetof(gt_atr, name), at); \
-        CHECK(sizeof ((gt_atr *)0)->name, size); \
-    } while (0)
-
-/* The same of an answer to reset, with the size of each field. */
-static void layout_of_an_answer(void) {
-    CHECK(sizeof(gt_atr), 96);
-    FIELD(length, 0, 8);
-    FIELD(historical, 8, 8);
-    FIELD(historical_count, 16, 8);
-    FIELD(category, 24, 1);
-    FIELD(convention, 25, 1);
-    FIELD(protocol_count, 26, 1);
-    FIELD(protocols, 27, 15);
-    FIELD(names_15, 42, 1);
-    FIELD(rate_code, 43, 1);
-    FIELD(di, 44, 1);
-    FIELD(extra_guard_time, 45, 1);
-    FIELD(waiting_integer, 46, 1);
-    FIELD(specific, 47, 1);
-    FIELD(specific_t, 48, 1);
-    FIELD(can_change, 49, 1);
-    FIELD(implicit, 50, 1);
-    FIELD(clock_stop, 51, 1);
-    FIELD(classes, 52, 1);
-    FIELD(fi, 54, 2);
-    FIELD(max_khz, 56, 2);
-    FIELD(guard_etu, 58, 2);
-    FIELD(guard_etu_t1, 60, 2);
-    FIELD(guard_indicated, 62, 2);
-    FIELD(waiting_time, 64, 4);
-    FIELD(t1, 72, 24);
-    FIELD(t1.ifsc, 72, 1);
-    FIELD(t1.edc, 73, 1);
-    FIELD(t1.bwi, 74, 1);
-    FIELD(t1.cwi, 75, 1);
-    FIELD(t1.cwt_etu, 76, 2);
-    FIELD(t1.bwt_etu, 78, 2);
-    FIELD(t1.bgt_etu, 80, 2);
-    FIELD(t1.bwt_cycles, 88, 8);
+    CHECK(sizeof(gt_command), 262);
+    CHECK(offsetof(gt_command, le), 4);
+    CHECK(offsetof(gt_command, size), 6);
+    CHECK(offsetof(gt_command, data), 7);
 }
 
 int main(void) {
@@ -188,6 +147,5 @@ int main(void) {
     cut_words();
     numbers();
     layouts();
-    layout_of_an_answer();
     return check_result("texts");
 }

@@ -183,7 +183,7 @@ static const char *take_response(struct line *line, uint8_t response[GT_PPS_LIMI
             wanted = 3U + (response[1] >> 4 & 1U) + (response[1] >> 5 & 1U)
                 + (response[1] >> 6 & 1U);
     }
-    if (fault != NULL)
+    if (fault != NULL && !line->is_early)
         --*n;
     return fault == LINE_IS_SILENT ? "the card does not answer to PPS" : fault;
 }

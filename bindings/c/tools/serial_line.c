@@ -250,7 +250,7 @@ const char *line_receive_first(struct line *line, uint8_t *byte, bool *has_other
         remove_first(line, 1);
     }
     note_turn(line);
-    return line->is_early ? UNEXPECTED : text_of(result);
+    return text_of(result);
 }
 
 /* An echo is no character of this end: it is sent at once. */
@@ -274,6 +274,8 @@ const char *line_receive(struct line *line, uint8_t *byte, int64_t wait)
         return fault;
     *byte = by_convention(line, raw);
     line_note(line, other_of(line), *byte);
+    if (line->is_early)
+        return UNEXPECTED;
     if (!is_well(line, has_other_parity))
         return LINE_HAS_WRONG_PARITY;
     return line->echo == LINE_GIVES_ECHO ? give_echo(line, raw) : NULL;

@@ -4,6 +4,7 @@ The examples give the same answers at a pseudo terminal and as whole commands.""
 import json
 import os
 import select
+import shlex
 import signal
 import subprocess
 import sys
@@ -122,7 +123,7 @@ def test_a_card_in_another_language():
     card = Card("--program", "sh counter.sh")
     assert [card.answer(it) for it in commands] == answers
     card.end()
-    vpcd = Vpcd(of=Simulator(OwnCard(Program(f"sh {EXAMPLES}/counter.sh"))))
+    vpcd = Vpcd(of=Simulator(OwnCard(Program(shlex.join(["sh", f"{EXAMPLES}/counter.sh"])))))
     assert [vpcd.ask(bytes.fromhex(it)).hex().upper() for it in commands] == answers
     vpcd.end()
 
@@ -143,7 +144,7 @@ for line in sys.stdin:
 def test_the_lines_of_a_program(tmp_path):
     (tmp_path / "logs.py").write_text(LOGS)
     log = tmp_path / "log"
-    with OwnCard(Program(f"{sys.executable} {tmp_path}/logs.py {log}")) as card:
+    with OwnCard(Program(shlex.join([sys.executable, f"{tmp_path}/logs.py", str(log)]))) as card:
         card.receive_bytes(bytes.fromhex("00D6000002"))
         assert card.send_bytes().hex() == "d6"
         card.receive_bytes(bytes.fromhex("AABB"))

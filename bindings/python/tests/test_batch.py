@@ -262,10 +262,13 @@ def test_a_journal_that_was_cut(tmp_path):
         file.write_bytes(whole[:kept])
         count = whole[:kept].count(b"\n")
         undecided = {} if count < 2 or count % 2 else {count // 2: "unsure"}
-        found = room.opened(3).undecided()
+        found = (journal := room.opened(3)).undecided()
         assert {row: it.state for row, it in found.items()} == undecided
-        # a cut line is removed
-        assert file.read_bytes() == heading + b"".join(lines[: count - 1])
+        # the next line replaces a cut one
+        assert file.read_bytes() == whole[:kept]
+        journal.note(1, "begin", "0123456789abcdef Slot0")
+        *kept_lines, last = file.read_bytes()[len(heading) :].splitlines(keepends=True)
+        assert kept_lines == lines[: count - 1] and last.startswith(b"begin 1 20")
     file.write_bytes(whole[:-1])
     assert room.to_decide() == {3: "unsure"}
     room.decide()

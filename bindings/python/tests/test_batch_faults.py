@@ -217,7 +217,9 @@ def test_no_row_is_on_two_cards_after_a_power_loss(tmp_path):
     library = tmp_path / "on_disk.so"
     warnings = ["-Wall", "-Wextra", "-Werror", "-shared", "-fPIC", "-o", library]
     subprocess.run(["cc", *warnings, HERE / "power/on_disk.c"], check=True)
-    room.environment.update(LD_PRELOAD=str(library), ON_DISK=str(tmp_path / "disk"), SLOW="0.01")
+    # LD_PRELOAD can't name a folder with a space
+    room.environment.update(LD_PRELOAD=library.name, LD_LIBRARY_PATH=str(tmp_path))
+    room.environment.update(ON_DISK=str(tmp_path / "disk"), SLOW="0.01")
     for _ in range(LOSSES):
         run = room.start("--id=9F7F", go=False)
         before = -1

@@ -192,10 +192,29 @@ def test_check_finds_no_mistake_and_writes_nothing(tmp_path):
     assert sorted(it.name for it in tmp_path.iterdir()) == before and not room.held()
     room.create()
     assert room.run("--check") == (0, "2 rows, and no mistake\n", "")
-    journal = tmp_path / "journal"
-    journal.write_text("")  # as a crash may leave it
-    assert room.run("--check", "--new") == (0, "2 rows, and no mistake\n", "")
-    assert journal.read_text() == ""
+    whole = (journal := tmp_path / "journal").read_text()
+    for kept in (0, 1, 20, len(whole) - 1):  # as a crash may leave its heading
+        journal.write_text(whole[:kept])
+        assert room.run("--check", "--new") == (0, "2 rows, and no mistake\n", "")
+        assert journal.read_text() == whole[:kept]
+    for other in (f"{whole}begin 1 20", whole, "name,code\n"):
+        journal.write_text(other)
+        why = "galliumtoad.batch: journal exists: without --new the batch continues\n"
+        assert room.run("--check", "--new") == (2, "", why)
+        assert journal.read_text() == other
+
+
+def test_who_only_asks_does_not_mend_a_cut_line(tmp_path):
+    """The run that writes the next line does."""
+    room, journal = Room(tmp_path, 1), tmp_path / "journal"
+    room.create()
+    journal.write_text(cut := f"{journal.read_text()}begin 1 20")
+    for words in (["--check"], ["--status"], ["--look=1"]):
+        room.run(*words)
+        assert journal.read_text() == cut
+    assert room.run()[0] == 0
+    words = [it.split()[0] for it in journal.read_text().splitlines()[1:]]
+    assert words == ["begin", "done"]
 
 
 def test_all_mistakes_are_named_at_once_up_to_twenty(tmp_path):

@@ -350,8 +350,26 @@ def test_a_report_is_whole_at_each_moment(tmp_path):
 
 def test_a_report_that_can_not_be_written_is_named_before_any_card(tmp_path):
     room = Room(tmp_path, 2)
-    wanted = "galliumtoad.batch: [Errno 2] No such file or directory: 'nowhere/day.html.new'\n"
-    assert room.run("--report=nowhere/day.html") == (2, "", wanted) and not room.held()
+    why = f"[Errno 2] No such file or directory: 'nowhere/day.html.{os.getpid()}.new'"
+    wanted = (2, "", f"galliumtoad.batch: {why}\n")
+    assert room.run("--report=nowhere/day.html") == wanted and not room.held()
+
+
+def test_two_processes_write_one_report(tmp_path, monkeypatch):
+    """The second writes all of it while the first one does."""
+    path = str(tmp_path / "day.csv")
+
+    def write_another(file):
+        monkeypatch.undo()
+        if not (child := os.fork()):
+            report.write(path, [])
+            os._exit(0)
+        assert os.waitpid(child, 0)[1] == 0
+
+    monkeypatch.setattr(report.os, "fsync", write_another)
+    report.write(path, [])
+    assert (tmp_path / "day.csv").read_text().startswith("row,id,reader,")
+    assert [it.name for it in tmp_path.iterdir()] == ["day.csv"]
 
 
 def test_a_report_that_is_lost_stops_no_card(tmp_path):
@@ -363,7 +381,7 @@ def test_a_report_that_is_lost_stops_no_card(tmp_path):
         time.sleep(0.01)
     (tmp_path / "here").rename(tmp_path / "there")
     out, error = ended(run)
-    why = "[Errno 2] No such file or directory: 'here/day.html.new'"
+    why = f"[Errno 2] No such file or directory: 'here/day.html.{run.pid}.new'"
     assert f"no report: {why}\n" in out and out.count(" done, ") == 4
     assert (run.returncode, error) == (2, f"galliumtoad.batch: {why}\n")
 

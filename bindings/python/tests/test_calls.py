@@ -183,6 +183,15 @@ def test_numbers_out_of_range_are_value_errors(wrong):
             call()
 
 
+def test_a_nul_does_not_end_a_plan():
+    """C's text would end there, and the rest of the plan would be lost without a word."""
+    for held in (card(), Session(card())):
+        with pytest.raises(ValueError, match="a NUL character in the steps of a plan"):
+            held.plan("o\0n")
+    with raises(CallError, "GT_ARGUMENT"):
+        held.plan("o0n")
+
+
 def test_the_most_and_the_least_are_taken():
     assert Pps(15, 255, 0).request.hex().startswith("ff3fff00") and Pps(0).request
     assert head(0xFF8101, 0xFFFF).hex() == "ff810182ffff"

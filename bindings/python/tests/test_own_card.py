@@ -177,6 +177,8 @@ def test_at_t1():
 
 def test_a_plan():
     with own() as card:
+        with pytest.raises(ValueError, match="a NUL character"):
+            card.plan("n\0o", 2)
         card.plan("no", 2)
         assert card.tpdu(bytes.fromhex("00B0000501")) == made(1) + b"\x61\x02"
 

@@ -248,9 +248,13 @@ pub fn find<'a>(bytes: &'a [u8], path: &[u32]) -> Result<Option<Object<'a>>, Obj
 /// bytes. `None` if no tag of one to three bytes has this number.
 #[must_use]
 pub fn head(tag: u32, length: u16) -> Option<Vec<u8>> {
+    head_of(tag, length).map(|it| it.to_vec())
+}
+
+fn head_of(tag: u32, length: u16) -> Option<raw::Copied<6>> {
     version::look();
     // SAFETY: as for `copied`.
-    raw::copied::<6>(|to, room, n| unsafe { raw::galliumtoad_head(tag, length, to, room, n) })
+    raw::copied(|to, room, n| unsafe { raw::galliumtoad_head(tag, length, to, room, n) })
 }
 
 /// Writes one data object, with the length in its shortest form. The parts of its value come one
@@ -275,9 +279,11 @@ pub fn head(tag: u32, length: u16) -> Option<Vec<u8>> {
 pub fn encode(tag: u32, value: &[&[u8]]) -> Result<Vec<u8>, ObjectsError> {
     let add = |sum: usize, part: &&[u8]| sum.saturating_add(part.len());
     let length = u16::try_from(value.iter().fold(0, add)).map_err(|_| ObjectsError::TooLong)?;
-    let mut bytes = head(tag, length).ok_or(ObjectsError::NoTag)?;
-    let room = bytes.try_reserve_exact(length.into());
+    let head = head_of(tag, length).ok_or(ObjectsError::NoTag)?;
+    let mut bytes = Vec::new();
+    let room = bytes.try_reserve_exact(head.len() + usize::from(length));
     room.map_err(|_| ObjectsError::Memory)?;
+    bytes.extend_from_slice(&head);
     for part in value {
         bytes.extend_from_slice(part);
     }

@@ -2,7 +2,7 @@
 //! 7816-3, clause 9).
 
 use crate::error::codes;
-use crate::raw::{self, copied};
+use crate::raw::{self, copied, Copied};
 use crate::version;
 use alloc::vec::Vec;
 
@@ -60,11 +60,15 @@ impl Pps {
     /// card offers this: one that doesn't may stay silent.
     #[must_use]
     pub fn request(&self) -> Option<Vec<u8>> {
+        self.bytes().map(|it| it.to_vec())
+    }
+
+    fn bytes(&self) -> Option<Copied<PPS_LIMIT>> {
         version::look();
         let number = |byte: Option<u8>| byte.map_or(ABSENT, u16::from);
         let [pps1, pps2, pps3] = [self.pps1, self.pps2, self.pps3].map(number);
         // SAFETY: as for `copied`.
-        copied::<PPS_LIMIT>(|to, room, n| unsafe {
+        copied(|to, room, n| unsafe {
             raw::galliumtoad_pps_request(self.t, pps1, pps2, pps3, to, room, n)
         })
     }
@@ -81,7 +85,7 @@ impl Pps {
     /// - [`PpsError::Argument`]: T is above 15, whatever the response is.
     /// - Any other: the bytes are not a response. This is their first fault.
     pub fn agreed(&self, response: &[u8]) -> Result<bool, PpsError> {
-        let request = self.request().ok_or(PpsError::Argument)?;
+        let request = self.bytes().ok_or(PpsError::Argument)?;
         // SAFETY: slices with their lengths, which are only read.
         let code = unsafe {
             raw::galliumtoad_pps_agreed(

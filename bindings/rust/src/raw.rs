@@ -9,10 +9,10 @@
 
 use crate::version;
 use crate::wiped::wipe;
-use alloc::vec::Vec;
 use core::cell::UnsafeCell;
 use core::ffi::c_void;
 use core::fmt;
+use core::ops::Deref;
 
 /// What C sees of a handle: 16 bytes that only the library reads or writes.
 #[repr(C)]
@@ -193,11 +193,22 @@ macro_rules! declared {
 
 include!("functions.rs");
 
+/// The bytes that a call has copied to an array. They take no memory.
+pub struct Copied<const N: usize>([u8; N], usize);
+
+impl<const N: usize> Deref for Copied<N> {
+    type Target = [u8];
+
+    fn deref(&self) -> &[u8] {
+        &self.0[..self.1]
+    }
+}
+
 /// The bytes that a call copies to an array: it gets the array, its length, and a count apart.
 pub fn copied<const N: usize>(
     copies: impl FnOnce(*mut u8, usize, &mut usize) -> i32,
-) -> Option<Vec<u8>> {
+) -> Option<Copied<N>> {
     let (mut bytes, mut n) = ([0; N], 0);
     let code = copies(bytes.as_mut_ptr(), N, &mut n);
-    (code == OK).then(|| bytes[..n].to_vec())
+    (code == OK).then_some(Copied(bytes, n))
 }

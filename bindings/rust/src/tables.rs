@@ -41,6 +41,7 @@ impl<'a> Tables<'a> {
     pub(crate) fn selected(self) -> Option<Vec<u8>> {
         // SAFETY: a handle of what the calls are for, which a call by `&` may write to (`Handle`).
         copied::<AID_LIMIT>(|to, room, n| unsafe { (self.1.selected)(self.0.at(), to, room, n) })
+            .map(|it| it.to_vec())
     }
 
     pub(crate) fn apps(self) -> impl Iterator<Item = Vec<u8>> + 'a {
@@ -50,6 +51,7 @@ impl<'a> Tables<'a> {
     fn app(self, app: usize) -> Option<Vec<u8>> {
         // SAFETY: as in `selected`.
         copied::<AID_LIMIT>(|to, room, n| unsafe { (self.1.app_at)(self.0.at(), app, to, room, n) })
+            .map(|it| it.to_vec())
     }
 
     pub(crate) fn entries(self, app: usize) -> impl Iterator<Item = Entry> + 'a {

@@ -380,6 +380,9 @@ fn settling() {
         for passed in 0..=sent.len() {
             let mut card = own();
             card.receive_bytes(tpdu).expect("listens");
+            // a refused call asks nothing of the application
+            let refused = card.receive_bytes(b"\x00").expect_err("a command waits");
+            assert_eq!((refused.taken, refused.error), (0, Error::NotListening));
             assert_eq!(card.take(0x00), Err(Error::NotListening));
             assert_eq!(steps(&card), []);
             let mut room = [0; 9];
@@ -472,22 +475,6 @@ fn interrupted(command: &[u8], prepare: impl Fn(&Probe) -> Option<Error>) {
         assert_eq!(talked(&mut card, update), b"\x90\x00");
         assert_eq!(steps(&card), fine());
     }
-}
-
-/// A refused call asks nothing of the application, and changes nothing.
-#[test]
-fn refusals() {
-    let mut card = own();
-    assert_eq!(card.receive_bytes(b"\x00\xB0\x00\x05\x05"), Ok(()));
-    for _ in 0..2 {
-        let refused = card.receive_bytes(b"\x00").expect_err("a command waits");
-        assert_eq!((refused.taken, refused.error), (0, Error::NotListening));
-        assert_eq!(card.take(0x00), Err(Error::NotListening));
-        assert_eq!(card.send_bytes(&mut []).map(|it| it.stop), Ok(Stop::Full));
-        assert_eq!(steps(&card), []);
-    }
-    assert_eq!(one(&mut card), Some(0xB0));
-    assert_eq!(steps(&card), [Did([0, 0xB0, 0, 5], vec![], 5)]);
 }
 
 /// `settle` and `reset` do nothing by default.

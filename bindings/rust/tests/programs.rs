@@ -1,11 +1,19 @@
-//! Tests whole programs: examples, one without `std`, and those that the compiler has to refuse.
+//! Tests whole programs: examples, one without `std`, a plugin, and those that the compiler has to
+//! refuse.
 #![cfg(not(feature = "own-memory"))]
 
 use std::path::{Path, PathBuf};
 use std::process::{Command, Output};
 
-/// Compiles a program that uses this crate, with these features. Returns its path, and the output.
-fn compiled(name: &str, source: &str, features: &str) -> (PathBuf, Output) {
+/// Has cargo build a package that uses this crate, with these lines of its manifest. Returns its
+/// folder of what is built, and cargo's output.
+fn built(
+    name: &str,
+    manifest: &str,
+    features: &str,
+    source: &str,
+    word: &str,
+) -> (PathBuf, Output) {
     let folder = Path::new(env!("CARGO_TARGET_TMPDIR"))
         .join("programs")
         .join(name);
@@ -13,8 +21,8 @@ fn compiled(name: &str, source: &str, features: &str) -> (PathBuf, Output) {
     // another version of cargo may have written it
     let _ = std::fs::remove_file(folder.join("Cargo.lock"));
     let manifest = format!(
-        "[package]\nname = \"{name}\"\nversion = \"0.1.0\"\nedition = \"2021\"\n[workspace]\n\
-         [profile.dev]\npanic = \"abort\"\n[dependencies]\n\
+        "[package]\nname = \"{name}\"\nversion = \"0.1.0\"\nedition = \"2021\"\n\
+         {manifest}\n[workspace]\n[dependencies]\n\
          galliumtoad = {{ path = {:?}, default-features = false, features = [{features}] }}\n",
         env!("CARGO_MANIFEST_DIR")
     );
@@ -22,11 +30,18 @@ fn compiled(name: &str, source: &str, features: &str) -> (PathBuf, Output) {
     std::fs::write(folder.join("src/main.rs"), source).expect("written");
     let target = folder.join("target");
     let done = Command::new(env!("CARGO"))
-        .args(["build", "--offline", "--quiet", "--target-dir"])
+        .args(["build", "--offline", "--quiet", word, "--target-dir"])
         .arg(&target)
         .current_dir(&folder)
         .output()
         .expect("cargo runs");
+    (target, done)
+}
+
+/// Compiles a program that ends at a panic. Returns its path, and the output.
+fn compiled(name: &str, source: &str, features: &str) -> (PathBuf, Output) {
+    let manifest = "[profile.dev]\npanic = \"abort\"";
+    let (target, done) = built(name, manifest, features, source, "--profile=dev");
     (target.join("debug").join(name), done)
 }
 
@@ -202,5 +217,38 @@ fn examples_print_what_their_cards_answer() {
         let says = String::from_utf8_lossy(&done.stderr).into_owned();
         assert!(done.status.success(), "{says}");
         assert_eq!(String::from_utf8_lossy(&done.stdout), wanted, "{name}");
+    }
+}
+
+const PLUGIN: &str = "
+#[no_mangle]
+pub extern \"C\" fn plugin_starts() -> bool {
+    galliumtoad::Terminal::new().is_ok() && galliumtoad::CardBuilder::new().is_ok()
+}
+";
+
+/// The names that a library exports or imports.
+fn dynamic_names(library: &Path) -> Vec<String> {
+    let done = Command::new("nm").arg("-D").arg(library).output();
+    let done = done.expect("nm runs");
+    assert!(done.status.success());
+    let lines = String::from_utf8(done.stdout).expect("names");
+    let last = |line: &str| line.split_whitespace().last().map(str::to_owned);
+    lines.lines().filter_map(last).collect()
+}
+
+/// A plugin (a `cdylib`) exports neither its functions for memory nor those of the archive.
+#[test]
+fn a_plugin_keeps_its_memory_to_itself() {
+    let manifest = "autobins = false\n[lib]\npath = \"src/main.rs\"\ncrate-type = [\"cdylib\"]";
+    for profile in ["dev", "release"] {
+        let word = format!("--profile={profile}");
+        let (target, done) = built("plugin", manifest, "\"std\"", PLUGIN, &word);
+        assert!(done.status.success());
+        let folder = if profile == "dev" { "debug" } else { profile };
+        let names = dynamic_names(&target.join(folder).join("libplugin.so"));
+        assert!(names.iter().any(|name| name == "plugin_starts"));
+        let is_ours = |it: &&String| it.starts_with("rattle_") || it.starts_with("galliumtoad_");
+        assert_eq!(names.iter().find(is_ours), None);
     }
 }

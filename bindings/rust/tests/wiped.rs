@@ -6,7 +6,7 @@
 
 use galliumtoad::{encode, find, head, Card, CardBuilder, Error, Exchange, Objects, ObjectsError};
 use galliumtoad::{Application, Command, OwnCard, Response, Status, OWN_LIMIT};
-use galliumtoad::{Operation, RunError, Session, Terminal, Turn, TPDU_LIMIT};
+use galliumtoad::{Operation, Pps, RunError, Session, Terminal, Turn, TPDU_LIMIT};
 use std::alloc::{GlobalAlloc, Layout, System};
 use std::cell::Cell;
 use std::ffi::c_void;
@@ -174,7 +174,11 @@ fn left(mut run: impl FnMut()) -> (usize, bool) {
     }
 }
 
-const NOTHING: (usize, bool) = (0, false);
+/// No freed block and no place of the stack has the secret after `run`.
+#[track_caller]
+fn leaves_nothing(run: impl FnMut()) {
+    assert_eq!(left(run), (0, false));
+}
 
 /// Checks whether bytes that a call returned have the secret, and wipes them, since the test owns
 /// them.
@@ -225,65 +229,53 @@ fn what_is_left_is_seen() {
 #[test]
 fn a_card_leaves_nothing() {
     let _one = one();
-    assert_eq!(left(|| drop(card())), NOTHING);
-    assert_eq!(
-        left(|| {
-            let mut builder = CardBuilder::new().expect("memory");
-            assert!(builder.object(0x5F20, &SECRET).is_err());
-        }),
-        NOTHING
-    );
+    leaves_nothing(|| drop(card()));
+    leaves_nothing(|| {
+        let mut builder = CardBuilder::new().expect("memory");
+        assert!(builder.object(0x5F20, &SECRET).is_err());
+    });
     // a second call would overwrite what the first leaves, so each has its own stack
     for ask in [Card::tpdu, Card::apdu] {
-        assert_eq!(
-            left(|| {
-                let mut card = card();
-                own(ask(&mut card, &SELECT).expect("an answer"), false);
-                own(ask(&mut card, &PUT).expect("an answer"), false);
-                let (answer, _) = far_below(|| ask(&mut card, &GET).expect("an answer"));
-                own(answer, true);
-            }),
-            NOTHING
-        );
-    }
-    assert_eq!(
-        left(|| {
+        leaves_nothing(|| {
             let mut card = card();
-            own(card.tpdu(&SELECT).expect("an answer"), false);
-            let mut room = vec![0; 258];
-            assert_eq!(card.tpdu_into(&PUT, &mut room), Ok(2));
-            assert_eq!(card.tpdu_into(&GET, &mut room), Ok(21));
-            own(room, true);
-            for entry in card.entries(0) {
-                own(entry.value, true);
-            }
-            card.reset().expect("a reset");
-        }),
-        NOTHING
-    );
+            own(ask(&mut card, &SELECT).expect("an answer"), false);
+            own(ask(&mut card, &PUT).expect("an answer"), false);
+            let (answer, _) = far_below(|| ask(&mut card, &GET).expect("an answer"));
+            own(answer, true);
+        });
+    }
+    leaves_nothing(|| {
+        let mut card = card();
+        own(card.tpdu(&SELECT).expect("an answer"), false);
+        let mut room = vec![0; 258];
+        assert_eq!(card.tpdu_into(&PUT, &mut room), Ok(2));
+        assert_eq!(card.tpdu_into(&GET, &mut room), Ok(21));
+        own(room, true);
+        for entry in card.entries(0) {
+            own(entry.value, true);
+        }
+        card.reset().expect("a reset");
+    });
 }
 
 #[test]
 fn a_card_leaves_nothing_by_characters() {
     let _one = one();
-    assert_eq!(
-        left(|| {
-            let mut card = card();
-            card.receive_bytes(&SELECT[..5]).expect("a header");
-            assert_eq!(card.turn(), Ok(Turn::Sends(0xA4)));
-            card.receive_bytes(&SELECT[5..]).expect("its data");
-            let mut room = vec![0; 300];
-            assert_eq!(card.send_bytes(&mut room).expect("a status").count, 2);
-            card.receive_bytes(&PUT[..5]).expect("a header");
-            assert_eq!(card.turn(), Ok(Turn::Sends(0xDA)));
-            card.receive_bytes(&PUT[5..]).expect("its data");
-            assert_eq!(card.send_bytes(&mut room).expect("a status").count, 2);
-            card.receive_bytes(&GET).expect("a header");
-            assert_eq!(card.send_bytes(&mut room).expect("data").count, 22);
-            own(room, true);
-        }),
-        NOTHING
-    );
+    leaves_nothing(|| {
+        let mut card = card();
+        card.receive_bytes(&SELECT[..5]).expect("a header");
+        assert_eq!(card.turn(), Ok(Turn::Sends(0xA4)));
+        card.receive_bytes(&SELECT[5..]).expect("its data");
+        let mut room = vec![0; 300];
+        assert_eq!(card.send_bytes(&mut room).expect("a status").count, 2);
+        card.receive_bytes(&PUT[..5]).expect("a header");
+        assert_eq!(card.turn(), Ok(Turn::Sends(0xDA)));
+        card.receive_bytes(&PUT[5..]).expect("its data");
+        assert_eq!(card.send_bytes(&mut room).expect("a status").count, 2);
+        card.receive_bytes(&GET).expect("a header");
+        assert_eq!(card.send_bytes(&mut room).expect("data").count, 22);
+        own(room, true);
+    });
 }
 
 /// Takes the secret from a command, and answers with it, or panics.
@@ -327,77 +319,62 @@ fn talk(card: &mut OwnCard<Echo>) {
 fn a_card_of_your_own_leaves_nothing() {
     let _one = one();
     let card = |panics| OwnCard::new(Echo(panics)).expect("memory");
-    assert_eq!(left(|| talk(&mut card(false))), NOTHING);
+    leaves_nothing(|| talk(&mut card(false)));
     let resets = |mut card: OwnCard<Echo>| card.reset().expect("a card");
     for ends in [drop, resets] {
-        assert_eq!(
-            left(|| {
-                let mut card = card(false);
-                card.receive_bytes(&PUT[..5]).expect("a header");
-                assert_eq!(card.turn(), Ok(Turn::Sends(0xDA)));
-                card.receive_bytes(&PUT[5..]).expect("its data");
-                assert_eq!(card.turn(), Ok(Turn::Sends(0x61)));
-                ends(card);
-            }),
-            NOTHING
-        );
+        leaves_nothing(|| {
+            let mut card = card(false);
+            card.receive_bytes(&PUT[..5]).expect("a header");
+            assert_eq!(card.turn(), Ok(Turn::Sends(0xDA)));
+            card.receive_bytes(&PUT[5..]).expect("its data");
+            assert_eq!(card.turn(), Ok(Turn::Sends(0x61)));
+            ends(card);
+        });
     }
     let panics = || {
         let run = AssertUnwindSafe(|| talk(&mut card(true)));
         assert!(catch_unwind(run).is_err());
     };
     panics();
-    assert_eq!(left(panics), NOTHING);
+    leaves_nothing(panics);
 }
 
 #[test]
 fn an_exchange_leaves_nothing() {
     let _one = one();
     let start = |command: &[u8]| Exchange::start(command).expect("memory");
-    assert_eq!(left(|| drop(start(&PUT))), NOTHING);
-    assert_eq!(left(|| drop(start(&PUT).tpdu())), NOTHING);
-    assert_eq!(left(|| drop(start(&PUT).tpdu().clone())), NOTHING);
-    assert_eq!(
-        left(|| {
-            let mut room = vec![0; TPDU_LIMIT];
-            let due = start(&PUT).tpdu_into(&mut room).expect("room");
-            assert_eq!(due.expect("due").count, 21);
-            own(room, true);
-        }),
-        NOTHING
-    );
-    assert_eq!(
-        left(|| {
-            let mut exchange = start(&PUT);
-            while let Ok(Turn::Sends(_)) = exchange.turn() {}
-            exchange.take(0xDA).expect("a procedure byte");
-            let mut room = vec![0; 30];
-            assert_eq!(exchange.send_bytes(&mut room).expect("data").count, 16);
-            own(room, true);
-        }),
-        NOTHING
-    );
-    assert_eq!(
-        left(|| {
-            let mut exchange = start(&GET);
-            exchange.answered(&FOUND_OBJECT).expect("an answer");
-            own(exchange.answer().expect("an answer").data, true);
-            let mut room = vec![0; 19];
-            assert_eq!(exchange.answer_into(&mut room).expect("one").count, 19);
-            own(room, true);
-            assert!(exchange.answer_into(&mut [0; 18]).is_err());
-        }),
-        NOTHING
-    );
-    assert_eq!(
-        left(|| {
-            let mut exchange = start(&GET);
-            while let Ok(Turn::Sends(_)) = exchange.turn() {}
-            exchange.take(0xCA).expect("a procedure byte");
-            exchange.receive_bytes(&FOUND_OBJECT).expect("an answer");
-        }),
-        NOTHING
-    );
+    leaves_nothing(|| drop(start(&PUT)));
+    leaves_nothing(|| drop(start(&PUT).tpdu()));
+    leaves_nothing(|| drop(start(&PUT).tpdu().clone()));
+    leaves_nothing(|| {
+        let mut room = vec![0; TPDU_LIMIT];
+        let due = start(&PUT).tpdu_into(&mut room).expect("room");
+        assert_eq!(due.expect("due").count, 21);
+        own(room, true);
+    });
+    leaves_nothing(|| {
+        let mut exchange = start(&PUT);
+        while let Ok(Turn::Sends(_)) = exchange.turn() {}
+        exchange.take(0xDA).expect("a procedure byte");
+        let mut room = vec![0; 30];
+        assert_eq!(exchange.send_bytes(&mut room).expect("data").count, 16);
+        own(room, true);
+    });
+    leaves_nothing(|| {
+        let mut exchange = start(&GET);
+        exchange.answered(&FOUND_OBJECT).expect("an answer");
+        own(exchange.answer().expect("an answer").data, true);
+        let mut room = vec![0; 19];
+        assert_eq!(exchange.answer_into(&mut room).expect("one").count, 19);
+        own(room, true);
+        assert!(exchange.answer_into(&mut [0; 18]).is_err());
+    });
+    leaves_nothing(|| {
+        let mut exchange = start(&GET);
+        while let Ok(Turn::Sends(_)) = exchange.turn() {}
+        exchange.take(0xCA).expect("a procedure byte");
+        exchange.receive_bytes(&FOUND_OBJECT).expect("an answer");
+    });
 }
 
 /// A terminal frees its copy of a value for a longer one, and the last copy at its end, even if the
@@ -406,59 +383,50 @@ fn an_exchange_leaves_nothing() {
 fn what_a_terminal_keeps_is_wiped() {
     let _one = one();
     let secret = [b"PIN ", SECRET.as_slice()].concat();
-    assert_eq!(
-        left(|| {
-            let mut terminal = Terminal::new().expect("a terminal");
-            for value in [&secret, b"JOE".as_slice(), &[0; 40], &secret, b"ANN"] {
-                let put = Operation::Put(0x5F20, value);
-                terminal.begin(put).expect("begun");
-                drop(terminal.tpdu().expect("memory").expect("due"));
-                terminal.answered(&[0x90, 0x00]).expect("an answer");
-            }
-            terminal
-                .begin(Operation::Put(0x50, &secret))
-                .expect("begun");
-            terminal.reset().expect("a reset");
-        }),
-        NOTHING
-    );
+    leaves_nothing(|| {
+        let mut terminal = Terminal::new().expect("a terminal");
+        for value in [&secret, b"JOE".as_slice(), &[0; 40], &secret, b"ANN"] {
+            let put = Operation::Put(0x5F20, value);
+            terminal.begin(put).expect("begun");
+            drop(terminal.tpdu().expect("memory").expect("due"));
+            terminal.answered(&[0x90, 0x00]).expect("an answer");
+        }
+        terminal
+            .begin(Operation::Put(0x50, &secret))
+            .expect("begun");
+        terminal.reset().expect("a reset");
+    });
 }
 
 /// Puts and gets ten values over a transport, over one that fails, and over one that panics.
 #[test]
 fn a_transport_leaves_nothing() {
     let _one = one();
-    assert_eq!(
-        left(|| {
-            let mut card = card();
-            let mut reader = |tpdu: &[u8], answer: &mut [u8]| card.tpdu_into(tpdu, answer);
-            let mut terminal = Terminal::new().expect("a terminal");
-            let mut run = |operation| terminal.run(&mut reader, operation).expect("an answer");
-            assert!(run(Operation::Select(&AID)).status.is_ok());
-            for _ in 0..10 {
-                assert!(run(Operation::Put(0x5F20, &SECRET)).status.is_ok());
-            }
-            own(run(Operation::Get(0x5F20)).data, true);
-            assert!(run(Operation::Send(&PUT)).status.is_ok());
-            own(run(Operation::Send(&GET)).data, true);
-            let mut room = vec![0; 19];
-            assert_eq!(terminal.answer_into(&mut room).expect("one").count, 19);
-            own(room, true);
-        }),
-        NOTHING
-    );
+    leaves_nothing(|| {
+        let mut card = card();
+        let mut reader = |tpdu: &[u8], answer: &mut [u8]| card.tpdu_into(tpdu, answer);
+        let mut terminal = Terminal::new().expect("a terminal");
+        let mut run = |operation| terminal.run(&mut reader, operation).expect("an answer");
+        assert!(run(Operation::Select(&AID)).status.is_ok());
+        for _ in 0..10 {
+            assert!(run(Operation::Put(0x5F20, &SECRET)).status.is_ok());
+        }
+        own(run(Operation::Get(0x5F20)).data, true);
+        assert!(run(Operation::Send(&PUT)).status.is_ok());
+        own(run(Operation::Send(&GET)).data, true);
+        let mut room = vec![0; 19];
+        assert_eq!(terminal.answer_into(&mut room).expect("one").count, 19);
+        own(room, true);
+    });
     let put = Operation::Put(0x5F20, &SECRET);
-    assert_eq!(
-        left(|| {
-            let mut reader = |_: &[u8], answer: &mut [u8]| {
-                answer[..16].copy_from_slice(&SECRET);
-                Err(())
-            };
-            let mut terminal = Terminal::new().expect("a terminal");
-            assert!(terminal.run(&mut reader, put).is_err());
-        }),
-        NOTHING
-    );
+    leaves_nothing(|| {
+        let mut reader = |_: &[u8], answer: &mut [u8]| {
+            answer[..16].copy_from_slice(&SECRET);
+            Err(())
+        };
+        let mut terminal = Terminal::new().expect("a terminal");
+        assert!(terminal.run(&mut reader, put).is_err());
+    });
     let panics = |value: &[u8]| {
         let mut reader = |_: &[u8], answer: &mut [u8]| -> Result<usize, ()> {
             answer[..16].copy_from_slice(value);
@@ -470,7 +438,7 @@ fn a_transport_leaves_nothing() {
     };
     // a function that is linked at its first call saves registers then, with the last copied bytes
     panics(&[0; 16]);
-    assert_eq!(left(|| panics(&SECRET)), NOTHING);
+    leaves_nothing(|| panics(&SECRET));
 }
 
 /// The value of an object is replaced during a session, and each block that grows on the way is
@@ -479,55 +447,49 @@ fn a_transport_leaves_nothing() {
 fn a_session_leaves_nothing() {
     let _one = one();
     let long = SECRET.repeat(40);
-    assert_eq!(
-        left(|| {
-            let mut session = Session::start(card()).expect("a session");
-            session.listen().expect("somebody listens");
-            assert_eq!(session.select(&AID).expect("an answer").status, 0x9000);
-            assert!(session.put(0x5F20, &SECRET).expect("an answer").is_ok());
-            let mut heard = session.heard().expect("memory");
-            assert_eq!(heard.len(), 8 + 16);
-            heard.iter_mut().for_each(|it| it.1 = 0);
-            heard
-                .iter()
-                .for_each(|it| seen(std::slice::from_ref(&it.1)));
-            drop(heard);
-            own(session.get(0x5F20).expect("an answer").data, true);
-            own(session.answer().expect("the same").data, true);
-            let mut room = vec![0; 19];
-            assert_eq!(session.answer_into(&mut room).expect("one").count, 19);
-            own(room, true);
-            own(session.send(&PUT).expect("an answer").data, false);
-            own(session.send(&GET).expect("an answer").data, true);
-            for entry in session.entries(0) {
-                own(entry.value, true);
-            }
-            assert!(session.put(0x5F20, b"ANN").expect("an answer").is_ok());
-            assert!(session.put(0x5F21, &long).expect("an answer").is_ok());
-            assert_eq!(session.put(0x50, &SECRET).expect("an answer"), 0x6982);
-            session.reset().expect("a reset");
-            drop(session.end().expect("the card"));
-        }),
-        NOTHING
-    );
+    leaves_nothing(|| {
+        let mut session = Session::start(card()).expect("a session");
+        session.listen().expect("somebody listens");
+        assert_eq!(session.select(&AID).expect("an answer").status, 0x9000);
+        assert!(session.put(0x5F20, &SECRET).expect("an answer").is_ok());
+        let mut heard = session.heard().expect("memory");
+        assert_eq!(heard.len(), 8 + 16);
+        heard.iter_mut().for_each(|it| it.1 = 0);
+        heard
+            .iter()
+            .for_each(|it| seen(std::slice::from_ref(&it.1)));
+        drop(heard);
+        own(session.get(0x5F20).expect("an answer").data, true);
+        own(session.answer().expect("the same").data, true);
+        let mut room = vec![0; 19];
+        assert_eq!(session.answer_into(&mut room).expect("one").count, 19);
+        own(room, true);
+        own(session.send(&PUT).expect("an answer").data, false);
+        own(session.send(&GET).expect("an answer").data, true);
+        for entry in session.entries(0) {
+            own(entry.value, true);
+        }
+        assert!(session.put(0x5F20, b"ANN").expect("an answer").is_ok());
+        assert!(session.put(0x5F21, &long).expect("an answer").is_ok());
+        assert_eq!(session.put(0x50, &SECRET).expect("an answer"), 0x6982);
+        session.reset().expect("a reset");
+        drop(session.end().expect("the card"));
+    });
 }
 
 #[test]
 fn objects_leave_nothing() {
     let _one = one();
     let list = &FOUND_OBJECT[..19];
-    assert_eq!(
-        left(|| {
-            let mut objects = Objects::over(list).expect("objects");
-            assert!(has_secret(objects.next().expect("one").value));
-            assert!(find(list, &[0x5F20]).expect("objects").is_some());
-            own(head(0x5F20, 16).expect("a head"), false);
-            own(encode(0x50, &[&SECRET]).expect("an object"), true);
-            let fault = encode(0x70, &[&SECRET]).map(drop);
-            assert!(matches!(fault, Err(ObjectsError::Fault { .. })));
-        }),
-        NOTHING
-    );
+    leaves_nothing(|| {
+        let mut objects = Objects::over(list).expect("objects");
+        assert!(has_secret(objects.next().expect("one").value));
+        assert!(find(list, &[0x5F20]).expect("objects").is_some());
+        own(head(0x5F20, 16).expect("a head"), false);
+        own(encode(0x50, &[&SECRET]).expect("an object"), true);
+        let fault = encode(0x70, &[&SECRET]).map(drop);
+        assert!(matches!(fault, Err(ObjectsError::Fault { .. })));
+    });
 }
 
 /// A list without memory for it is an error, and the program continues.
@@ -644,6 +606,10 @@ fn without_memory_nothing_is_done() {
     let found = without(303, || encode(0x5F20, &[&value]).map(|it| it.len()));
     assert_eq!(found, Err(ObjectsError::Memory));
     assert_eq!(encode(0x5F20, &[&value]).map(|it| it.len()), Ok(305));
+    let found = with_blocks(0, || encode(0x50, &[b"A"]).map(drop));
+    assert_eq!(found, Err(ObjectsError::Memory));
+    let agreed = with_blocks(0, || Pps::default().agreed(b"\xFF\x00\xFF"));
+    assert_eq!(agreed, Ok(true));
     let list = Objects::over(b"\x70\x02\x50\x00").expect("objects").next();
     let children = list.expect("one");
     for blocks in [0, 1] {

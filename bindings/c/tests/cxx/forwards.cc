@@ -69,32 +69,34 @@ static void of_objects() {
     CHECK(notes[0].what[1], 23);
 }
 
+// The calls that an exchange and a terminal have.
+#define PASSES(it, of) do { \
+        Tpdu tpdu_; \
+        Apdu apdu_; \
+        uint8_t byte_; \
+        HANDS(it.next(byte_), of "next", P(it.handle()), P(&byte_)); \
+        HANDS(it.take(0xF1), of "take", P(it.handle()), 0xF1); \
+        HANDS(it.send_bytes(to, n), of "send_bytes", P(it.handle()), TO, P(&n)); \
+        HANDS(it.receive_bytes(in, n), of "receive_bytes", P(it.handle()), IN, P(&n)); \
+        HANDS(it.tpdu(tpdu_, m), of "tpdu", P(it.handle()), P(tpdu_.bytes), GT_TPDU_LIMIT, \
+              P(&tpdu_.count), P(&m)); \
+        HANDS(it.answered(in), of "answered", P(it.handle()), IN); \
+        HANDS(it.apdu(apdu_, m), of "apdu", P(it.handle()), P(apdu_.bytes), GT_APDU_LIMIT, \
+              P(&apdu_.count), P(&m)); \
+        HANDS(it.responded(in), of "responded", P(it.handle()), IN); \
+        HANDS(it.answer(status, to, n), of "answer", P(it.handle()), P(&status), TO, P(&n)); \
+        HANDS(it.data_sent(), of "data_sent", P(it.handle())); \
+    } while (0)
+
 static void of_exchange() {
     Exchange e;
-    Tpdu tpdu;
-    Apdu apdu;
-    uint8_t byte;
     HANDS(e.start(in), "exchange_start", P(e.handle()), IN);
     HANDS(e.start_within(in, 7), "exchange_start_within", P(e.handle()), IN, 7);
-    HANDS(e.next(byte), "exchange_next", P(e.handle()), P(&byte));
-    HANDS(e.take(0xF1), "exchange_take", P(e.handle()), 0xF1);
-    HANDS(e.send_bytes(to, n), "exchange_send_bytes", P(e.handle()), TO, P(&n));
-    HANDS(e.receive_bytes(in, n), "exchange_receive_bytes", P(e.handle()), IN, P(&n));
-    HANDS(e.tpdu(tpdu, m), "exchange_tpdu", P(e.handle()), P(tpdu.bytes), GT_TPDU_LIMIT,
-          P(&tpdu.count), P(&m));
-    HANDS(e.answered(in), "exchange_answered", P(e.handle()), IN);
-    HANDS(e.apdu(apdu, m), "exchange_apdu", P(e.handle()), P(apdu.bytes), GT_APDU_LIMIT,
-          P(&apdu.count), P(&m));
-    HANDS(e.responded(in), "exchange_responded", P(e.handle()), IN);
-    HANDS(e.answer(status, to, n), "exchange_answer", P(e.handle()), P(&status), TO, P(&n));
-    HANDS(e.data_sent(), "exchange_data_sent", P(e.handle()));
+    PASSES(e, "exchange_");
 }
 
 static void of_terminal() {
     Terminal t;
-    Tpdu tpdu;
-    Apdu apdu;
-    uint8_t byte;
     HANDS(t.create(), "terminal_new", P(t.handle()));
     HANDS(t.create_within(7), "terminal_new_within", P(t.handle()), 7);
     HANDS(t.reset(), "terminal_reset", P(t.handle()));
@@ -102,18 +104,7 @@ static void of_terminal() {
     HANDS(t.get(0x5F20), "terminal_get", P(t.handle()), 0x5F20);
     HANDS(t.put(0x5F20, in), "terminal_put", P(t.handle()), 0x5F20, IN);
     HANDS(t.send(in), "terminal_send", P(t.handle()), IN);
-    HANDS(t.next(byte), "terminal_next", P(t.handle()), P(&byte));
-    HANDS(t.take(0xF1), "terminal_take", P(t.handle()), 0xF1);
-    HANDS(t.send_bytes(to, n), "terminal_send_bytes", P(t.handle()), TO, P(&n));
-    HANDS(t.receive_bytes(in, n), "terminal_receive_bytes", P(t.handle()), IN, P(&n));
-    HANDS(t.tpdu(tpdu, m), "terminal_tpdu", P(t.handle()), P(tpdu.bytes), GT_TPDU_LIMIT,
-          P(&tpdu.count), P(&m));
-    HANDS(t.answered(in), "terminal_answered", P(t.handle()), IN);
-    HANDS(t.apdu(apdu, m), "terminal_apdu", P(t.handle()), P(apdu.bytes), GT_APDU_LIMIT,
-          P(&apdu.count), P(&m));
-    HANDS(t.responded(in), "terminal_responded", P(t.handle()), IN);
-    HANDS(t.answer(status, to, n), "terminal_answer", P(t.handle()), P(&status), TO, P(&n));
-    HANDS(t.data_sent(), "terminal_data_sent", P(t.handle()));
+    PASSES(t, "terminal_");
 }
 
 static void of_t1() {

@@ -4,7 +4,7 @@ from typing import Any, Collection, Mapping, NamedTuple, Optional
 
 from ._library import ffi, lib
 from .answers import Answer, Status
-from .handle import Bytes, Lasting, copied, plain, readable, shown, tag_number, within, writable
+from .handle import Bytes, Planned, copied, plain, readable, shown, tag_number, within, writable
 from .terminal import Operation, Put, call_of
 
 Tables = Mapping[bytes, Mapping[int, Bytes]]
@@ -22,7 +22,7 @@ class Entry(NamedTuple):
         return shown(self)
 
 
-class Holder(Lasting):
+class Holder(Planned):
     """A handle that holds data objects: a card, or a session with its card."""
 
     def _aid(self, name: str, *words: int) -> Optional[bytes]:
@@ -56,25 +56,6 @@ class Holder(Lasting):
         while not self._call("entry_at", app, len(found), *words, but=[lib.GT_NOT_FOUND]):
             found.append(Entry(tag[0], copied(value, count), bool(locked[0])))
         return found
-
-    def plan(self, steps: str, cut: int = 256) -> None:
-        """Adds a plan: how the card answers one more of the TPDUs to come, in turn.
-
-        `steps` are its procedure bytes: `n` (NULL), `o` (one byte), `a` (all bytes). If no bytes
-        are left, `o` and `a` are skipped. After the last letter all bytes that are left move. If
-        the card refuses the header, none do. `cut`, 1 to 256, is the most bytes that a status 61XX
-        announces. Without a plan the card answers as with "" and 256. `steps` end at a character 0.
-
-        The next operation that a session carries out drops the plans that it leaves. Plans are not
-        for `Card.apdu`.
-
-        Errors, after which nothing has changed:
-        - CallError, GT_ARGUMENT: another letter, or a cut of 0 or above 256.
-        - ValueError: `cut` is below 0 or above 65,535, or `steps` is not ASCII.
-        - CallError, GT_PLANS: 1,048,576 plans wait.
-        - OutOfMemory: memory ran out.
-        """
-        self._call("plan", str.encode(steps, "ascii"), within(cut, 0, 0xFFFF, "a cut"))
 
 
 class Card(Holder):

@@ -138,3 +138,29 @@ class Lasting(Handle):
         - A `T1` drops its last response and its fault, and keeps its settings. Reset the card too.
         """
         self._call("reset")
+
+
+class Planned(Lasting):
+    """A handle of a card, which answers TPDUs by plans."""
+
+    def plan(self, steps: str, cut: int = 256) -> None:
+        """Adds a plan: how the card answers one more of the TPDUs to come, in turn.
+
+        `steps` are its procedure bytes: `n` (NULL), `o` (one byte), `a` (all bytes). If no bytes
+        are left, `o` and `a` are skipped. After the last letter all bytes that are left move. If
+        the card refuses the header, none do. `cut`, 1 to 256, is the most bytes that a status 61XX
+        announces. Without a plan the card answers as with "" and 256.
+
+        The next operation that a session carries out drops the plans that it leaves. Plans are not
+        for `Card.apdu`.
+
+        Errors, after which nothing has changed:
+        - CallError, GT_ARGUMENT: another letter, or a cut of 0 or above 256.
+        - ValueError: `cut` is below 0 or above 65,535, or `steps` is not ASCII or has a NUL.
+        - CallError, GT_STATE: an `OwnCard` speaks T=1.
+        - CallError, GT_PLANS: 1,048,576 plans wait.
+        - OutOfMemory: memory ran out.
+        """
+        if "\0" in steps:
+            raise ValueError("a NUL character in the steps of a plan")
+        self._call("plan", str.encode(steps, "ascii"), within(cut, 0, 0xFFFF, "a cut"))

@@ -5,7 +5,7 @@ from typing import Any, Callable, NamedTuple
 
 from ._library import ffi, lib
 from .errors import checked
-from .handle import Bytes, Lasting, copied, readable, within, writable
+from .handle import Bytes, Planned, copied, readable, within, writable
 
 
 class Command(NamedTuple):
@@ -48,7 +48,7 @@ class Application(ABC):
         """The card is reset. A command that has not settled is dropped: undo it."""
 
 
-class OwnCard(Lasting):
+class OwnCard(Planned):
     """A card of an `Application` of your own: you write what a command does. It goes over T=0, by
     characters, as whole TPDUs and as whole commands, and over T=1. A command is carried out at most
     once, by `send_bytes`, `tpdu`, `apdu` or `block`. The card itself answers GET RESPONSE, the same
@@ -145,14 +145,8 @@ class OwnCard(Lasting):
         self._run(lambda *_: lib.gt_card_t1_send_bytes(self._handle, sent, room, count))
         return copied(sent, count)
 
-    def plan(self, steps: str, cut: int = 256) -> None:
-        """Adds a plan for one more of the TPDUs to come, as that of `Card`. Raises `CallError`,
-        GT_STATE, if the card speaks T=1."""
-        self._call("plan", str.encode(steps, "ascii"), within(cut, 0, 0xFFFF, "a cut"))
-
     def _whole(self, call: Callable[..., int], data: Bytes) -> bytes:
-        room = lib.GT_ANSWER_LIMIT
-        answer, count = writable(room)
+        answer, count = writable(room := lib.GT_ANSWER_LIMIT)
         self._run(lambda *sent: call(self._handle, *sent, answer, room, count), data)
         return copied(answer, count)
 

@@ -210,19 +210,18 @@ class Line(Application):
 
     def talk_t1(self) -> None:
         self.of.level, end = Level.APDU, OwnCard(self)
-        self.command, self.asked, self.response, self.last = b"", b"", b"", b""
+        self.command, self.response, self.last = b"", b"", b""
         end.begin_t1()
         while True:
             came = self.block()
-            field = came[3:-1][:254]
-            if came[1:2] in (b"\0", b"\x40") and came == block(0, came[1], field):  # the last part
-                self.asked = self.command + field
+            self.part = came[3:-1][:254]
+            if came[1:2] in (b"\0", b"\x40") and came == block(0, came[1], self.part):  # the last
                 if self.command:
                     end.block(block(0, ABORT, b""))
                 came = block(0, came[1], bytes(5))
             sent = end.block(came)
             if came[1:2] in (b"\x20", b"\x60") and sent[1] & 0xEF == 0x80:  # acknowledges a part
-                self.command += field
+                self.command += self.part
             elif sent[1] in (ABORT | RESPONSE, RESYNCH | RESPONSE):
                 self.command = b""
             elif sent[1] < 0x80 and sent[1:2] != self.last[1:2]:
@@ -238,7 +237,7 @@ class Line(Application):
         return False
 
     def carry_out(self, command: Command) -> tuple[int, bytes]:
-        self.response, self.command, self.last = self.of.whole(self.asked), b"", b""
+        self.response, self.command, self.last = self.of.whole(self.command + self.part), b"", b""
         if request := self.of.faults.edited(b"", "wtx BYTE", "ifs BYTE", "abort"):
             for _ in range(4):
                 self.write(request)

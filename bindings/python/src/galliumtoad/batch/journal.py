@@ -1,7 +1,7 @@
 """The journal of a batch: which row of a table went to which card, and how it ended. Each line is
 on disk before the next step. A process takes a row under a lock on the file's byte 0, and holds it
-by a lock on the byte of the row's number; the system drops both if the process dies. A line that a
-crash has cut is removed: the step that it announces did not begin."""
+by a lock on the byte of the row's number; the system drops both if the process dies. The next
+line replaces one that a crash has cut: the step that it announces did not begin."""
 
 import contextlib
 import fcntl
@@ -70,28 +70,28 @@ def refuse_a_second(path: str, table: str, at: int, of: int) -> None:
     for folder in sorted({os.path.dirname(it) for it in (mine, place)}):
         for it in os.scandir(folder):
             if it.is_file() and (other := os.path.realpath(it.path)) != mine:
-                found = heading_of(it.path)
-                if found and found.table == place and found.meets(at, of):
+                if (found := heading_of(it.path)) and found.table == place and found.meets(at, of):
                     raise ValueError(f"{table} has another journal, {other}")
 
 
-def create(path: str, heading: Heading) -> None:
-    """Creates a journal, for its owner alone, and a link to it beside the table, if possible."""
+def create(path: str, heading: Heading, only_looks: bool = False) -> None:
+    """Creates a journal, for its owner alone, and a link to it beside the table, if possible. If
+    the file exists, a crash has cut its heading: it has no row. `only_looks` changes nothing."""
     place, table = os.path.realpath(path), heading.table
     folder, beside = os.path.dirname(place), os.path.dirname(table)
     with open(os.open(path, os.O_RDWR | os.O_CREAT, 0o600), "r+b", 0) as file:
         fcntl.lockf(file, fcntl.LOCK_EX, 1, 0)
         begun = file.read(1 << 16).decode(errors="replace")
-        # A crash may have cut the heading. Such a journal has no row.
         if "\n" in begun or not _MAGIC.startswith(begun[: len(_MAGIC)]):
             raise ValueError(f"{path} exists: without --new the batch continues")
+        if only_looks:
+            return
         if os.path.isfile(table) and beside != folder and os.access(beside, os.W_OK):
             link = f"{table}.{heading.at}-of-{heading.of}.journal"
             if os.path.islink(link) and not os.path.exists(link):
                 os.unlink(link)
             with contextlib.suppress(PermissionError):  # on a disk without links
                 os.symlink(place, link)
-        file.truncate(0)
         named = replace(heading, table=os.path.relpath(table, folder))
         _write(file.fileno(), f"{_MAGIC}{json.dumps(asdict(named))}\n", 0)
     opened = os.open(folder, os.O_RDONLY)
@@ -100,6 +100,7 @@ def create(path: str, heading: Heading) -> None:
 
 
 def _write(file: int, line: str, place: int) -> None:
+    os.ftruncate(file, place)
     if os.pwrite(file, line.encode(), place) < len(line.encode()):
         raise OSError("no space is left for the journal")
     os.fsync(file)
@@ -197,8 +198,6 @@ class Journal:
         for line in whole.split(b"\n")[0 if self._read else 1 : -1]:
             self._take_in(line.decode(errors="replace"))
         self._read += len(whole)
-        if whole != text:
-            os.ftruncate(self._file, self._read)
 
     def _take_in(self, line: str) -> None:
         word, number, time, note = [*line.split(" ", 3), "", "", "", ""][:4]

@@ -89,9 +89,11 @@ def opened(given: argparse.Namespace, rows: Rows) -> list[Journal]:
     if given.new:
         [path], (at, of) = given.journal, given.part or (1, 1)
         refuse_a_second(path, given.rows, at, of)
-        if given.check and not (os.path.exists(path) and os.path.getsize(path)):
+        heading = Heading(at, of, given.id, os.urandom(16).hex(), place_of(given.rows))
+        if os.path.exists(path) or not given.check:
+            create(path, heading, given.check)
+        if given.check:
             return []
-        create(path, Heading(at, of, given.id, os.urandom(16).hex(), place_of(given.rows)))
     journals = [Journal(it, given.rows, len(rows)) for it in given.journal]
     for path, heading, begun in ((it.path, it.heading, it.rows) for it in journals):
         if given.part not in (None, (heading.at, heading.of)):

@@ -28,7 +28,7 @@ def joined(journals: list[Journal]) -> tuple[dict[int, Entry], Counter[str], int
 
 
 def write(path: Optional[str], journals: list[Journal]) -> None:
-    """Writes a report, if it has a path. The file is whole at each moment."""
+    """Writes a report, if it has a path. The file is whole at each moment, with any writers."""
     if not path:
         return
     rows, counts, all_of = joined(journals)
@@ -43,11 +43,11 @@ def write(path: Optional[str], journals: list[Journal]) -> None:
 """)
         text.writelines(f'<tr class="{kind}">{it}</tr>\n' for kind, it in cells)
         text.write("</table></html>\n")
-    with open(f"{path}.new", "w", -1, "utf-8", "backslashreplace", "") as file:
+    with open(f"{path}.{os.getpid()}.new", "w", -1, "utf-8", "backslashreplace", "") as file:
         file.write(text.getvalue())
         file.flush()
         os.fsync(file.fileno())
-    os.replace(f"{path}.new", path)
+    os.replace(f"{path}.{os.getpid()}.new", path)
 
 
 def _line(row: int, it: Entry) -> list[str]:

@@ -256,9 +256,8 @@ def stored(terminal: Terminal, reader: Transport, tag: int) -> tuple[Optional[by
     answer = terminal.run(reader, Get(tag))
     if found := answer.object(tag):
         return found.value, ""
-    status = answer.status
-    reading = f"its reading was answered {status:04X} {status.text}"
-    return None, "read back nothing" if status.is_ok else reading
+    reading = f"its reading was answered {answer.status:04X} {answer.status.text}"
+    return None, "read back nothing" if answer.status.is_ok else reading
 
 
 def identity(terminal: Terminal, reader: Transport, tag: int) -> str:

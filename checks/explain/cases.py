@@ -1,7 +1,7 @@
 """The cases of `trace_explain`: input, words and expected output.
 
-- checks/explain/cases/NAME.trace with NAME.out, NAME.args and NAME.err, and those in the folder
-  captures/: the whole output.
+- checks/explain/cases/NAME.trace with NAME.out, NAME.args and NAME.err, most of them in the folder
+  captures/: whole sessions, with the whole output. NAME_MORE.out has the same trace.
 - statuses.txt: `HEADER STATUS SENTENCE`, the sentence for a status after such a command.
 - titles.txt: the title of a command, as `HEADER | TITLE`, `HEADER > DATA | TITLE` (data of the
   terminal) or `HEADER < DATA | TITLE` (data of the card).
@@ -9,21 +9,28 @@
 - long_traces.py: traces in which the interesting part comes late.
 - stories.cases: several TPDUs, in lines that begin with a word:
   - `in`: a line of the trace; `with`: a line of the second trace for `--diff`; `$`: the words.
-  - `out`: a line of the output. Rows of headers, procedure bytes, data and statuses are left out,
-    except with a mask or `--diff`. Of a page only the part below its head is compared.
+  - `out`: a line of the output, and `again 3` the same three times more. Rows of headers, procedure
+    bytes, data and statuses are left out, except with a mask or `--diff`. Of a page only the part
+    below its head is compared.
   - `refused`, `name` and `whole`: the lines of a GET DATA (`GETS`), as `refused #2 3` for its
     number and line, and then its time if it has one. `object` is its last rows (`OBJECT`).
   - `box #2 3 GET DATA of 50 | < 4142 | 9000`: a TPDU with its number, line, title, data and status.
-    On a page the color comes first: `box well #2 3 ..`.
-  - `answer 1 3B800181 T=1`: an answer to reset in line 1, or as `answer 1` that of 3B00.
+    It may have the rows `| time ..`, `| blocks ..`, `| before ..` and `| procedure ..`.
+    Without the last one and blocks, the procedure of data is `all at once`. `/` separates lines
+    of data and blocks. On a page the color comes first: `box well #2 3 ..`.
+  - `answer 1 3B800181 T=1`: an answer to reset in line 1, or as `answer 1` that of 3B00. Rows with
+    other values follow, as `| historical 43 / a proprietary form`, with `/` between their lines.
+    `pps 2 FF00FF T=0; ..`: a PPS request in line 2, with the same response and this meaning.
   - `unexpected 2 1 55 card a status` and `fault 1 00A404 6700 a reason`: an unexpected byte, or
     command and answer (`rows_of`).
   - `counts 1 | GET DATA: 1 | none other than 9000 | errors: 0`: the last block.
-  - `bad LINE`: a case in which `--tpdu` refuses this line alone as `bad hex`.
+  - `bad LINE`: a case in which this line alone is refused as `bad hex`. In logs.cases it
+    has `--tpdu`.
   - `err`: a line on standard error, in place of that for the first protocol error. `time`: the time
     in the last block.
   - `\\xHH` in a line is that byte.
 - In the same form, with the whole output above the last block:
+  - dialogues.cases: several TPDUs, with all rows; answers.cases: answers to reset and PPS.
   - lines.cases: the forms of lines, each also as a row `form`; times.cases: times before the signs.
   - bare.cases: commands without data whose card repeats INS.
   - unsigned.cases: lines without signs; logs.cases: logs of whole TPDUs.
@@ -39,7 +46,7 @@ import re
 import subprocess
 from collections import Counter
 from dataclasses import dataclass, field
-from itertools import zip_longest
+from itertools import chain, zip_longest
 from pathlib import Path
 
 import long_traces
@@ -81,10 +88,10 @@ TOLD_BY_SIGNS = {
     "characters before a header are no answer, whatever comes next",
     # after an invalid answer to reset, or after the first characters of PPS
     "a page of answers and an exchange",
-    "answers_at_fault",
-    "pps",
+    "answers at fault or cut off, and what follows them",
+    "PPS that is agreed, changed, refused or cut off",
     # an answer to reset that begins with `03` after a TPDU
-    "answers_again",
+    "answers of which no line says, behind an answer, TPDUs and a chain",
     # the same bytes in the other direction
     "two traces whose data go another way, and of which one is cut off",
     # characters of the card at the place of a header, and a sign without characters
@@ -102,6 +109,9 @@ TOLD_BY_SIGNS = {
     # a block that is cut off or comes again: ends take no turns
     "made here: a chain of the terminal, as a line that damages a block shows it",
     "made here: a byte is lost, so that the block is cut off where the other end begins",
+    "made here: two damaged blocks of one end in a line end where their LEN says",
+    "made here: after a wrong LEN, what follows is cut in wrong places up to where the other end "
+    "begins",
     "a mask hides what blocks without a response carry",
     "blocks with CRC read as such with LRC: a CRC fits all but the third, and the last has an "
     "invalid NAD",
@@ -131,6 +141,8 @@ GETS = {
 # The rows of a whole GET DATA of 5F20 that brings the object.
 OBJECT = ["  > header     00CA5F2000", '  < data       5F20 4A4F45 "JOE"  cardholder name',
           "  < status     9000 normal processing"]
+# The rows of a TPDU that have a name in a row `box`.
+NAMED = ("time ", "blocks ", "before ", "procedure ")
 # The sentences of two statuses.
 SENTENCES = {"9000": "9000 normal processing", "6A88": "6A88 referenced data not found"}
 
@@ -344,7 +356,11 @@ def rows_of(word, said):
     An answer to reset has its line. An unexpected byte has its place, itself, who sent it, and what
     was expected."""
     if word == "answer":
-        return answer_of(*said.split())
+        return answer_of(said)
+    if word == "pps":
+        line, characters, meaning = said.split(" ", 2)
+        return [f"PPS  (line {line})", f"  > request    {characters}", " " * 15 + meaning,
+                f"  < response   {characters}", " " * 15 + f"agreed: {meaning}"]
     if word == "fault":
         line, command, answer, fault = said.split(" ", 3)
         return [f"unexpected command or answer  (line {line})", f"    fault      {fault}",
@@ -358,43 +374,57 @@ def rows_of(word, said):
     return [title, *(f"    time       {it}" for it in time), *GETS[word]]
 
 
-def answer_of(line, characters="3B00", offered="T=0"):
-    """The lines of an answer to reset that changes no value, by the protocols that it offers."""
+def answer_of(said):
+    """The lines of an answer to reset, by the protocols that it offers and the values that it
+    changes."""
+    about, *changed = said.split(" | ")
+    line, characters, offered = [*about.split(), *("3B00", "T=0")[about.count(" "):]]
     names = offered.split(",")
-    guards = [f"{name}: 12 etu" for name in names]
-    waits = row("waiting", ["T=0: 3571200 clock cycles"]) if "T=0" in names else []
-    convention = "inverse" if characters.startswith("3F") else "direct"
-    return [
-        f"answer to reset  (line {line})", f"  < characters {characters}",
-        *row("convention", [convention]), *row("protocols", [", ".join(names)]),
-        *row("rate", ["Fi 372, up to 5000 kHz; Di 1"]), *row("guard time", guards), *waits,
-        *row("historical", ["none"]),
-    ]
+    values = {
+        "read": [], "convention": ["inverse" if characters.startswith("3F") else "direct"],
+        "protocols": [", ".join(names)], "rate": ["Fi 372, up to 5000 kHz; Di 1"],
+        "guard time": [f"{name}: 12 etu" for name in names],
+        "waiting": ["T=0: 3571200 clock cycles"] if "T=0" in names else [],
+        "historical": ["none"],
+    }
+    for it in changed:
+        label = next((label for label in values if it.startswith(label)), it.split()[0])
+        values[label] = it[len(label) + 1 :].split(" / ")
+    return [f"answer to reset  (line {line})", f"  < characters {characters}",
+            *(it for label, lines in values.items() if lines for it in row(label, lines))]
 
 
 def box_of(said, case):
-    """The lines of the TPDU of a row `box`. Its header is the first five bytes of its line."""
+    """The lines of the TPDU of a row `box`. Its header is the first five bytes of its line, or of
+    the block in it."""
     about, *parts, status = said.split(" | ")
+    named = dict(it.split(" ", 1) for it in parts if it.startswith(NAMED))
+    parts = [it for it in parts if not it.startswith(NAMED)]
     is_page = "--html" in case.words
     kind, about = about.split(" ", 1) if is_page else ("", about)
     number, line, title = about.split(" ", 2)
     given = SIGNED.sub(b"", case.given.splitlines()[int(line) - 1]).decode()
-    header = title if title == "**" else re.sub("[^0-9A-F]", "", given.upper())[:10]
+    digits = re.sub("[^0-9A-F]", "", given.upper())[6 if "blocks" in named else 0 :]
+    header = title if title == "**" else digits[:10]
     shown = SENTENCES.get(status, status)
-    pieces = [(">", "header", in_parts(header) if is_page else header)]
-    if parts and "--tpdu" not in case.words:
-        pieces.append(("<", "procedure", "all at once"))
+    pieces = [(" ", name, named[name]) for name in ("time", "blocks", "before") if name in named]
+    pieces.append((">", "header", in_parts(header) if is_page else header))
+    is_of_t0 = "--tpdu" not in case.words and "blocks" not in named
+    if "procedure" in named or (parts and is_of_t0):
+        pieces.append(("<", "procedure", named.get("procedure", "all at once")))
     pieces += [(it[0], "Le", it[5:]) if " Le " in it else (it[0], "data", it[2:]) for it in parts]
     pieces.append((" " if shown.startswith("cut off") else "<", "status", shown))
     if not is_page:
-        rows_of_it = [f"  {way} {name:<10} {text}" for way, name, text in pieces]
-        return [f"{number} {title}  (line {line})", *rows_of_it]
+        rows_of_it = (f"  {way} {name:<10} {text}".split(" / ") for way, name, text in pieces)
+        further = ([first, *(" " * 15 + it for it in rest)] for first, *rest in rows_of_it)
+        return [f"{number} {title}  (line {line})", *chain.from_iterable(further)]
     is_open = "" if kind == "well" else " open"
     word = "" if kind == "cut" else f'<b class="{kind}">{shown[:4]}</b> '
     beside = "".join(f"<span>{it[2:]}</span> " for it in parts if it[0] == "<" and "**" not in it)
     return [f'<details class="{kind}" id="t{number[1:]}"{is_open}><summary>{number} {title} {word}'
             f"{beside}<small>line {line}</small></summary>",
-            *(line for it in pieces for line in piece(*it)), "</details>"]
+            *(line for way, name, text in pieces
+              for line in piece(way, name, text.replace(" / ", "\n"))), "</details>"]
 
 
 def in_parts(header):
@@ -467,43 +497,45 @@ def story_cases(name, part):
         word, _, rest = line.partition(" ")
         if word == "case":
             found.append(Case(rest, b"", [], part=part))
-        elif word in (*GETS, "answer", "unexpected", "fault"):
-            found[-1].wanted += rows_of(word, rest)
-        elif word in ("box", "counts"):
-            found[-1].wanted += {"box": box_of, "counts": counts_of}[word](rest, found[-1])
         elif word == "bad":
-            found.append(Case(f"bad hex: {rest}", lines_of([rest]), [], ["--tpdu"],
-                              "line 1: bad hex\n", part))
-        elif word == "object":
-            found[-1].wanted += OBJECT
+            words = ["--tpdu"] if name == "logs.cases" else []
+            found.append(Case(f"bad hex: {rest}", bytes_of(rest), [], words, "line 1: bad hex\n",
+                              part))
         elif word == "form":
             found += form_cases(*rest.split())
-        elif word == "in":
-            given = ODD.sub(lambda it: bytes([int(it[1], 16)]), rest.encode())
-            found[-1].given += given + b"\n"
-        elif word == "with":
-            found[-1].other += rest.encode() + b"\n"
-        elif word == "out":
-            found[-1].wanted.append(rest)
-        elif word == "err":
-            found[-1].error += rest + "\n"
-        elif word == "time":
-            found[-1].time = rest
-        elif word == "$":
-            found[-1].words = rest.split()
-            if "--html" in rest:
-                found[-1].part = "page"
-            elif part == "json":
-                found[-1].part = part
-            elif "--mask" in rest or "--diff" in rest:
-                found[-1].part = "shown"
-            else:
-                found[-1].part = part
         else:
-            raise ValueError(f"{name}: {line}")
+            add_row(found[-1], word, rest, part)
     for it in found:
         it.error = it.error or error_of(it)
     return found
+
+
+def add_row(case, word, rest, part):
+    """Adds a row of a file to its case."""
+    if word == "in":
+        case.given += bytes_of(rest)
+    elif word == "with":
+        case.other += rest.encode() + b"\n"
+    elif word == "out":
+        case.wanted.append(rest)
+    elif word == "again":
+        case.wanted += case.wanted[-1:] * int(rest)
+    elif word == "object":
+        case.wanted += OBJECT
+    elif word in ("box", "counts"):
+        case.wanted += {"box": box_of, "counts": counts_of}[word](rest, case)
+    elif word in (*GETS, "answer", "pps", "unexpected", "fault"):
+        case.wanted += rows_of(word, rest)
+    elif word == "err":
+        case.error += rest + "\n"
+    elif word == "time":
+        case.time = rest
+    elif word == "$":
+        case.words = rest.split()
+        is_shown = part != "json" and {"--mask", "--diff"} & set(case.words)
+        case.part = "page" if "--html" in case.words else "shown" if is_shown else part
+    else:
+        raise ValueError(f"{case.name}: {word} {rest}")
 
 
 def secret_cases(ways):
@@ -582,17 +614,13 @@ def long_cases(traces):
 
 def whole_cases():
     """The cases of checks/explain/cases, which list the whole output."""
-    for trace in sorted(CASES.rglob("*.trace")):
-        text = {kind: there(trace.with_suffix(f".{kind}")) for kind in ("out", "args", "err")}
+    for out in sorted(CASES.rglob("*.out")):
+        text = {kind: there(out.with_suffix(f".{kind}")) for kind in ("out", "args", "err")}
+        traces = out.with_suffix(".trace"), out.with_name(f"{out.stem.rpartition('_')[0]}.trace")
+        given = next(it for it in traces if it.exists()).read_bytes()
         time = TIME.search(text["out"].rpartition(f"{BLOCK}\n")[2])
-        yield Case(
-            trace.stem,
-            trace.read_bytes(),
-            text["out"].splitlines(),
-            text["args"].split(),
-            text["err"],
-            time=time[1] if time else "",
-        )
+        yield Case(out.stem, given, text["out"].splitlines(), text["args"].split(), text["err"],
+                   time=time[1] if time else "")
 
 
 def unsigned_cases(signed):
@@ -613,6 +641,11 @@ def unsigned_cases(signed):
 def there(path):
     """The text of a file, or an empty text if it does not exist."""
     return path.read_text(encoding="utf-8") if path.exists() else ""
+
+
+def bytes_of(line):
+    """The bytes of a line of a table."""
+    return ODD.sub(lambda it: bytes([int(it[1], 16)]), line.encode()) + b"\n"
 
 
 def lines_of(lines):
@@ -640,6 +673,8 @@ def table_cases():
         status_case(),
         title_case(),
         *story_cases("stories.cases", "story"),
+        *story_cases("dialogues.cases", "shown"),
+        *story_cases("answers.cases", "shown"),
         *story_cases("lines.cases", "shown"),
         *story_cases("times.cases", "shown"),
         *story_cases("bare.cases", "shown"),

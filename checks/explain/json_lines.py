@@ -1,14 +1,15 @@
-"""Tries `trace_explain --json` on every case: `json_lines.py PROGRAM` prints a line `passed`, or
-what is wrong, for each. Each line is an object that docs/trace_explain.schema.json allows, without
-a key twice. Its TPDUs are those of the text, in turn: number, header, status. With `--commands`
-each is in one command, which continues as long as the next TPDU does, and whose data are theirs
-joined. Without the module jsonschema the schema is left out, in a line `skipped`."""
+"""Tries `trace_explain --json` on every case: `json_lines.py PROGRAM..` prints a line `passed`, or
+what is wrong, for each case and program. Each line is an object that docs/trace_explain.schema.json
+allows, without a key twice. Its TPDUs are those of the text, in turn: number, header, status. With
+`--commands` each is in one command, which continues as long as the next TPDU does, and whose data
+are theirs joined. Without the module jsonschema the schema is left out, in a line `skipped`."""
 
 import json
 import re
 import subprocess
 import sys
-from itertools import groupby
+from functools import lru_cache
+from itertools import groupby, product
 from pathlib import Path
 
 sys.dont_write_bytecode = True
@@ -23,13 +24,25 @@ TITLE = re.compile(r"#(\d+) .*")
 LAYOUT = {"--html", "--json", "--commands", "--summary"}
 
 
-def checked():
-    """Returns what validates an object, or None if the module is missing."""
+def validators():
+    """Returns what validates the objects of each type, or None if the module is missing. The schema
+    has one definition for each type, so an object can only fit that of its own."""
     try:
         from jsonschema import Draft7Validator
     except ImportError:
         return None
-    return Draft7Validator(json.loads(SCHEMA.read_text(encoding="utf-8")))
+    schema = json.loads(SCHEMA.read_text(encoding="utf-8"))
+    found = {}
+    for kind in schema.pop("oneOf"):
+        definition = schema["definitions"][kind["$ref"].rpartition("/")[2]]
+        name = definition["properties"]["type"]["const"]
+        if name in found or "type" not in definition["required"]:
+            raise ValueError(f"the schema has two definitions for objects of the type {name}")
+        found[name] = Draft7Validator({**schema, "allOf": [kind]})
+    return found
+
+
+VALIDATORS = validators()
 
 
 def unique(pairs):
@@ -40,10 +53,22 @@ def unique(pairs):
     return dict(pairs)
 
 
+@lru_cache(maxsize=None)
+def object_of(line):
+    """The object of a line, which the schema must allow. Many cases and both programs write the
+    same lines, and validation takes longest, so each line is read once."""
+    found = json.loads(line, object_pairs_hook=unique)
+    if VALIDATORS:
+        if found.get("type") not in VALIDATORS:
+            raise ValueError(f"an object of no type in the schema: {line[:200]}")
+        for error in VALIDATORS[found["type"]].iter_errors(found):
+            raise ValueError(f"{error.message[:200]} in {line[:200]}")
+    return found
+
+
 def objects_of(program, case, words):
     """The objects that the program writes, one for each line."""
-    out = output_of(program, case, words)
-    return [json.loads(line, object_pairs_hook=unique) for line in out.splitlines()]
+    return [object_of(line) for line in output_of(program, case, words).splitlines()]
 
 
 def output_of(program, case, words):
@@ -99,13 +124,10 @@ def joined(command, key):
     return None if None in parts else "".join(parts)
 
 
-def fault_of(program, case, validator):
+def fault_of(program, case):
     """What is wrong with the objects of a case, or an empty text."""
     alone = objects_of(program, case, ["--json"])
     within = objects_of(program, case, ["--json", "--commands"])
-    for found in (*alone, *within) if validator else ():
-        if error := next(validator.iter_errors(found), None):
-            return f"{error.message[:200]} in {str(found)[:200]}"
     tpdus = tpdus_of(alone)
     if [told(it) for it in tpdus] != shown(output_of(program, case, []).splitlines()):
         return "other TPDUs than those of text"
@@ -121,20 +143,19 @@ def fault_of(program, case, validator):
     return ""
 
 
-def main(program):
-    """Tries all cases."""
-    validator = checked()
-    for case in [*cases.table_cases(), *cases.whole_cases()]:
+def main(programs):
+    """Tries all cases with each program."""
+    for program, case in product(programs, [*cases.table_cases(), *cases.whole_cases()]):
         if "--diff" in case.words:
             continue
         try:
-            said = fault_of(program, case, validator)
+            said = fault_of(program, case)
         except ValueError as error:
             said = str(error)
-        print(f"--json, {case.name}: {said}" if said else "passed")
-    if not validator:
+        print(f"--json, {Path(program).name}, {case.name}: {said}" if said else "passed")
+    if not VALIDATORS:
         print("skipped: the JSON Schema, since there is no module jsonschema")
 
 
 if __name__ == "__main__":
-    main(*sys.argv[1:])
+    main(sys.argv[1:])

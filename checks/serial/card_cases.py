@@ -10,9 +10,10 @@ import time
 from dataclasses import dataclass, field
 from pathlib import Path
 
+import terminal_cases
 from lines import Line, Other, play, trace_of
-from programs import SECONDS, TABLE, Late, Program, version
-from terminal_cases import GET_WORDS, SELECT_WORDS, look, rate_of
+from programs import SECONDS, TABLE, Late, Program
+from terminal_cases import GET_WORDS, SELECT_WORDS, look, rate_of, refuses
 
 USAGE = (
     "\nUsage: serial_card [OPTIONS] TTY TABLE"
@@ -406,8 +407,7 @@ def words():
         (["--plan", "nx", "x", TABLE], "a plan has the letters n, o and a"),
         (["--plan", "n"] * 65 + ["x", TABLE], "'--plan' is used too often"),
     ):
-        program = Program("serial_card", given)
-        look(program, program.end(), "", f"error: {why}\n{USAGE}", 2)
+        refuses("serial_card", given, f"error: {why}\n{USAGE}", 2)
     for given, fault in (
         (["/nowhere/tty", TABLE],
          "the tty cannot be opened: '/nowhere/tty': No such file or directory\n"),
@@ -415,21 +415,12 @@ def words():
         (["--pty", "/nowhere/table"], "/nowhere/table: No such file or directory\n"),
         (["--pty", "/"], "/: Is a directory\n"),
     ):
-        program = Program("serial_card", given)
-        look(program, program.end(), "", fault, 1)
+        refuses("serial_card", given, fault, 1)
 
 
 def helps():
     """A card's help fits a terminal. Its version is that of the header."""
-    for word in ("-h", "--help"):
-        program = Program("serial_card", [word])
-        assert program.end() == 0 and program.faults == "", program.faults
-        lines = program.output.splitlines()
-        assert max(map(len, lines)) <= 80, "a line of more than 80 columns"
-        assert "Usage: serial_card [OPTIONS] TTY TABLE" in lines, lines[:4]
-    for word in ("-V", "--version"):
-        program = Program("serial_card", [word])
-        look(program, program.end(), f"serial_card {version()}\n", "", 0)
+    terminal_cases.helps("serial_card", "TTY TABLE")
 
 
 def tests():

@@ -151,7 +151,7 @@ def faults():
 
 
 # A block that is damaged. The terminal asks again by R(0), with the error 1 if the LRC is wrong,
-# and 2 otherwise. The other rules of blocks and dialogues are proved, and bindings/c/tests/t1.c
+# and 2 otherwise. The other rules of blocks and dialogues are proved, and the book of examples
 # has dialogues. Here is what the program itself does: it receives a block, and drops the rest.
 BROKEN = (
     ("fewer bytes than LEN", "00000D6F"),

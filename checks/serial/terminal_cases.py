@@ -842,6 +842,12 @@ def closed_descriptors():
     look(program, program.end(), "", "read fault: '-': Bad file descriptor\n", 1)
 
 
+def refuses(name, given, fault, status, output=""):
+    """The program ends at once with these words."""
+    program = Program(name, given)
+    look(program, program.end(), output, fault, status)
+
+
 def words():
     """Words that are refused before the tty is opened, and ttys that can't be opened."""
     for given, why in (
@@ -875,8 +881,7 @@ def words():
         (["x", *GET, "get", "3E"], "operation 2: bad tag: '3E': neither 40 to FE without 5F, 7F, "
          "9F, BF and DF, nor one of these or FF and then 01 to 7F"),
     ):
-        program = Program("gt_serial", given)
-        look(program, program.end(), "", f"error: {why}\n{USAGE}", 2)
+        refuses("gt_serial", given, f"error: {why}\n{USAGE}", 2)
     for given, fault in (
         (["/nowhere/tty", *GET],
          "the tty cannot be opened: '/nowhere/tty': No such file or directory\n"),
@@ -884,21 +889,19 @@ def words():
         (["-f", "/nowhere/file", "/dev/null"],
          "read fault: '/nowhere/file': No such file or directory\n"),
     ):
-        program = Program("gt_serial", given)
-        look(program, program.end(), "", fault, 1)
+        refuses("gt_serial", given, fault, 1)
 
 
-def helps():
+def helps(name="gt_serial", usage="TTY [OPERATION..]"):
     """The help fits a terminal and names each option. The version is that of the header."""
     for word in ("-h", "--help"):
-        program = Program("gt_serial", [word])
+        program = Program(name, [word])
         assert program.end() == 0 and program.faults == "", program.faults
         lines = program.output.splitlines()
         assert max(map(len, lines)) <= 80, "a line of more than 80 columns"
-        assert "Usage: gt_serial [OPTIONS] TTY [OPERATION..]" in lines, lines[:4]
+        assert f"Usage: {name} [OPTIONS] {usage}" in lines, lines[:4]
     for word in ("-V", "--version"):
-        program = Program("gt_serial", [word])
-        look(program, program.end(), f"gt_serial {version()}\n", "", 0)
+        refuses(name, [word], "", 0, f"{name} {version()}\n")
 
 
 def tests():

@@ -403,12 +403,17 @@ def without_echo():
     yield ("without echo: T=1, an echo", lambda: in_time(lambda: terminal(
         "< 3B8081210323 > 00C101FE3E < 00C101FE3E", noted, "operation 1: the line echoes\n",
         options=slow, output="", echo=False)))
+    # -v shows the byte that was too early
+    shown = [*slow, "-v"]
+    yield ("without echo: a NULL within its header, shown", lambda: in_time(lambda: terminal(
+        f"< 3B00 {SHORT_WORDS}< 60", noted, fault, options=shown, echo=False,
+        output="reset\n< 3B00\n> 0020000000\n< 60\n")))
     yield ("without echo: T=1, an answer within the block", lambda: in_time(lambda: terminal(
-        "< 3B8081210323 > 00C101FE3E < 00E101FE1E", noted, fault, options=slow, output="",
-        echo=False)))
+        "< 3B8081210323 > 00C101FE3E < 00E101FE1E", noted, fault, options=shown, echo=False,
+        output="reset\n< 3B8081210323\n> 00C101FE3E\n< 00\n")))
     yield ("without echo: a PPS response within the request", lambda: in_time(lambda: terminal(
-        "< 3B1095 > FF10957A < FF10957A", tried, "unexpected byte\n",
-        options=[*slow, "--pps"], output="", echo=False)))
+        "< 3B1095 > FF10957A < FF10957A", tried, "unexpected byte\n", echo=False,
+        options=[*shown, "--pps"], output="reset\n< 3B1095\npps > FF10957A\npps < FF\n")))
 
 
 def ff_is_no_mark(refuses):
@@ -590,32 +595,29 @@ def card_settings():
         lambda tty, other: time.sleep(0.5), ["--reset", "dsr"], refuses="lines",
         fault="the tty does not return its DSR: Inappropriate ioctl for device\n"))
 
-    def wrong_parity(tty, other):
-        tty.await_note(EVEN)
-        pulse(tty, "cts")
-        play(other, "< 3B00 > 00", card=False)
+    def spoilt(second):
+        def session(tty, other):
+            tty.await_note(EVEN)
+            pulse(tty, "cts")
+            play(other, "< 3B00 > 00", card=False)
+            second(other)
+            other.take_nothing(0.3)
+            pulse(tty, "cts")
+            play(other, f"< 3B00 {ask}", card=False)
+        return session
+
+    def wrong_parity(other):
         other.sends_marked("CA")
         other.send("5F2000")
-        other.take_nothing(0.3)
-        pulse(tty, "cts")
-        play(other, f"< 3B00 {ask}", card=False)
 
-    yield ("a character to a card with a wrong parity", lambda: card(
-        wrong_parity, ["--reset", "cts"], fault=PARITY + GONE))
-
-    def cut_mark(tty, other):
-        tty.await_note(EVEN)
-        pulse(tty, "cts")
-        play(other, "< 3B00 > 00", card=False)
+    def cut_mark(other):
         other.line.write(b"\xff\0")
         time.sleep(0.15)
         other.line.write(b"\xca")
-        other.take_nothing(0.3)
-        pulse(tty, "cts")
-        play(other, f"< 3B00 {ask}", card=False)
 
-    yield ("a character to a card with a mark that is late", lambda: card(
-        cut_mark, ["--reset", "cts"], fault=PARITY + GONE))
+    for title, second in (("wrong parity", wrong_parity), ("mark that is late", cut_mark)):
+        yield (f"a character to a card with a {title}", lambda second=second: card(
+            spoilt(second), ["--reset", "cts"], fault=PARITY + GONE))
 
     def at_t1(place, pause):
         get = "00000500CA5F2000B0"

@@ -19,7 +19,7 @@ BELOW = re.compile(r"-0x([0-9a-f]+)\(%rsp")
 # How often a function may be entered again from itself: for each level of objects, and for an empty
 # list in an object of the deepest.
 ENTERED = {"card_c::objects::listed": 17}
-KEPT = re.compile(r"^ (\.[^\n]*?)\s+0x[0-9a-f]+\s+0x([0-9a-f]+) \S*libcard_c\.a\(", re.M)
+KEPT = re.compile(r"^ (\.[^\n]*?)\s+0x[0-9a-f]+\s+0x([0-9a-f]+) [^\n]*libcard_c\.a\(", re.M)
 
 
 def size(archive):

@@ -3,7 +3,6 @@ pub mod ExplainedLemmas
 pub mod TraceLemmas
 pub mod LogLemmas
 mod DigitLemmas
-mod PatternLemmas
 pub mod SheetLemmas
 mod TreeLemmas
 mod JsonTreeLemmas

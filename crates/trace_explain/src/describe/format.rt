@@ -41,6 +41,7 @@ pub fn push_words(text: &mut Sheet, names: &Names, row: TagRow, value: &[u8]) {
         "cvm" => push_methods(text, names, value),
         "fd" => push_descriptor(text, names, value),
         "sfi" => push_short_file(text, value),
+        "uint" => push_binary(text, value),
         "b" | "t" => {}
         _ => {
             let mut digits = text.empty();
@@ -68,11 +69,6 @@ fn push_digits(text: &mut Sheet, names: &Names, format: &str, digits: &str) {
         ("cn", _) => push_padded(text, digits),
         ("date", _) => push_date(text, digits),
         ("time", _) => push_time(text, digits),
-        ("uint", _) => {
-            if let Ok(number) = u64::from_str_radix(digits, 16) {
-                push_number(text, ": ", number);
-            }
-        }
         ("aid", _) => {
             if let Some(name) = names.aid(digits) {
                 separate(text, ", ");
@@ -87,6 +83,14 @@ fn push_digits(text: &mut Sheet, names: &Names, format: &str, digits: &str) {
 fn push_number(text: &mut Sheet, separator: &str, number: u64) {
     separate(text, separator);
     text.push_number(number);
+}
+
+/// Adds a binary number of at most 64 bits.
+fn push_binary(text: &mut Sheet, value: &[u8]) {
+    let zeros = value.iter().take_while(|byte| **byte == 0).count();
+    if !value.is_empty() && value.len().saturating_sub(zeros) <= 8 {
+        push_number(text, ": ", joined(0, value));
+    }
 }
 
 /// Adds decimal digits, if at least one `F` follows them.

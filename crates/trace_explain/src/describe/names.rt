@@ -28,13 +28,9 @@ impl Place {
         Place(joined(0, tag.bytes()), joined(self.0, tag.bytes()))
     }
 
-    /// Whether a word of a row stands for it.
-    fn is(self, word: &str) -> bool {
-        match word {
-            "*" => true,
-            "." => self.0 == 0,
-            _ => u64::from_str_radix(word, 16).is_ok_and(|it| it == self.0 || it == self.1),
-        }
+    /// Whether the place of a row stands for it.
+    fn is(self, place: Option<u64>) -> bool {
+        place.is_none_or(|it| it == self.0 || it == self.1)
     }
 }
 
@@ -55,7 +51,8 @@ struct Words(usize, usize);
 #[derive(Clone, Copy)]
 pub struct TagRow {
     tag: u64,
-    places: Words,
+    /// The number of the template around it; 0 without one, `None` for any.
+    place: Option<u64>,
     /// The least and the greatest size of its value.
     sizes: (usize, usize),
     format: Words,
@@ -129,17 +126,25 @@ impl Names {
     /// Takes a row that ends at this place of the text. Returns whether it is one.
     fn take(&mut self, line: &str, end: usize) -> Result<bool, AllocError> {
         match line.split_once(' ') {
-            Some(("tag", row)) => match tag_row(row, end) {
-                Some(row) => match self.tags.get_mut(list_of(row.tag)) {
-                    Some(rows) => taken(rows, Some(row)),
-                    None => Ok(false),
-                },
-                None => Ok(false),
-            },
+            Some(("tag", row)) => self.take_tag(row, end),
             Some(("aid", row)) => taken(&mut self.aids, aid_row(row, end)),
             Some(("bit", row)) => taken(&mut self.bits, bit_row(row, end)),
             _ => Ok(false),
         }
+    }
+
+    /// Takes the row of a tag, once for each of its places. Returns whether it is one.
+    fn take_tag(&mut self, row: &str, end: usize) -> Result<bool, AllocError> {
+        if let Some((row, places)) = tag_row(row, end)
+            && let Some(rows) = self.tags.get_mut(list_of(row.tag))
+        {
+            for word in places.split(',') {
+                let place = place_in(word);
+                rows.push(TagRow { place, ..row })?;
+            }
+            return Ok(true);
+        }
+        Ok(false)
     }
 
     /// The rows of all tables.
@@ -152,16 +157,11 @@ impl Names {
         let tag = joined(0, tag.bytes());
         for row in self.tags.get(list_of(tag))? {
             let is_of_size = row.sizes.0 <= size && size <= row.sizes.1;
-            if row.tag == tag && is_of_size && self.places(*row, place) {
+            if row.tag == tag && is_of_size && place.is(row.place) {
                 return Some(*row);
             }
         }
         None
-    }
-
-    /// Whether a row is for this place.
-    fn places(&self, row: TagRow, place: Place) -> bool {
-        self.words(row.places).split(',').any(|word| place.is(word))
     }
 
     /// The name of a row.
@@ -238,21 +238,31 @@ fn cut_word(row: &str, end: usize) -> Option<(&str, Words, &str)> {
     Some((word, words_before(end, word)?, rest))
 }
 
-/// Reads the row of a tag.
-fn tag_row(row: &str, end: usize) -> Option<TagRow> {
+/// Returns the place that a word stands for. No tag ends with `FF`.
+fn place_in(word: &str) -> Option<u64> {
+    match word {
+        "*" => None,
+        "." => Some(0),
+        _ => Some(u64::from_str_radix(word, 16).unwrap_or(u64::MAX)),
+    }
+}
+
+/// Reads the row of a tag, without its places, and these.
+fn tag_row(row: &str, end: usize) -> Option<(TagRow, &str)> {
     let (tag, _, row) = cut_word(row, end)?;
-    let (words, places, row) = cut_word(row, end)?;
+    let (places, _, row) = cut_word(row, end)?;
     let (sizes, _, row) = cut_word(row, end)?;
     let (word, format, name) = cut_word(row, end)?;
     let is_place = |word| matches!(word, "*" | ".") || is_hex(word);
-    let is_well = words.split(',').all(is_place) && is_format(word);
-    is_well.then_some(TagRow {
+    let is_well = places.split(',').all(is_place) && is_format(word);
+    let row = TagRow {
         tag: tag_of(tag)?,
-        places,
+        place: None,
         sizes: sizes_of(sizes)?,
         format,
         name: words_before(end, name)?,
-    })
+    };
+    is_well.then_some((row, places))
 }
 
 /// Whether a word is hexadecimal digits in capitals, two for each byte.

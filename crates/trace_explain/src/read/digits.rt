@@ -1,5 +1,5 @@
 //! Bytes as hexadecimal digits, with separators between them.
-ghost use Rattle.std.specs.Prelude.{◌≡◌, ◌<◌, ◌++◌, ◌∷◌, [], Bool, List, ℕ, drop, length, true, IfOk, IfErr, IfSome, OnOk};
+ghost use Rattle.std.specs.Prelude.{◌≡◌, ◌<◌, ◌≤◌, ◌++◌, ◌∷◌, [], Bool, List, ℕ, drop, length, true, IfOk, IfErr, IfSome, OnOk};
 ghost use Rattle.hex.specs.Hex.{hex_digit_value};
 ghost use Rattle.trace_explain.specs.Patterns.{IsBadField, begins, byte_at, byte_of, bytes_in, is_digits, next_spot, spelled, spelled_from};
 ghost use Rattle.trace_explain.specs.declared.read.digits.Spot.TheVariants.{Behind};
@@ -38,8 +38,7 @@ pub fn spelled(alloc: Global, is_short: bool, digits: &[u8]) -> Result<Vec<u8>, 
     'digits: while !rest.is_empty() {
         if let Some(byte) = pair_at(spot, rest) {
             push(&mut bytes, byte)?;
-            spot = Spot::Behind;
-            rest = &rest[2..];
+            (spot, rest) = behind_pair(&rest[2..]);
             continue 'digits;
         }
         let digit = rest[0];
@@ -73,6 +72,19 @@ fn pair_at(spot: Spot, digits: &[u8]) -> Option<u8>
         return None;
     }
     byte_of(digits[0], digits[1])
+}
+
+/// Returns the place right behind a byte, or behind a space there, and what follows.
+fn behind_pair(digits: &[u8]) -> (Spot, &[u8])
+    ensures on { (is_short : Bool) (bytes : List ℕ) →
+        spelled_from is_short bytes Behind digits.now
+        ≡ spelled_from is_short bytes result.0 result.1.now }
+    ensures left { length result.1.now ≤ length digits.now }
+{
+    match digits {
+        [b' ', rest @ ..] => (Spot::Between, rest),
+        _ => (Spot::Behind, digits),
+    }
 }
 
 /// Whether a byte may begin here.

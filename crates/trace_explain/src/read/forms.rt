@@ -21,9 +21,9 @@ pub const OF_FILE: usize = 4096;
 /// The program's forms. Those of characters at T=0 come first.
 pub const FORMS: &str = "\
 form angle: characters
-reset: reset
 command: > {bytes}
 answer: < {bytes}
+reset: reset
 command: pps > {bytes}
 answer: pps < {bytes}
 form angles: characters
@@ -57,15 +57,15 @@ form QXDM: characters
 command: TX - {bytes}
 answer: RX - {bytes}
 form pcsc: commands
+command: > {bytes}
+answer: < {bytes}{more}
 reset: reset
 reset: > RESET{any}
-command: > {bytes}
 note: < OK:{any}
 note: < KO:{any}
 note: <-{any}
 answer: < [] {bytes}
 answer: < {bytes}: {any}
-answer: < {bytes}{more}
 rest: {row}{any}
 rest: {bytes}:{any}
 perhaps: {bytes}{more}

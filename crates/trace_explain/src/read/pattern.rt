@@ -1,5 +1,5 @@
 //! Patterns of lines: what each part marks in a line, and what follows it.
-ghost use Rattle.std.specs.Prelude.{◌≡◌, ◌≤◌, Some, None, IfOk, IfErr, OnOk, false, length, replicate};
+ghost use Rattle.std.specs.Prelude.{◌≡◌, ◌≤◌, Some, None, IfOk, IfErr, OnOk, length, replicate};
 ghost use Rattle.trace_explain.specs.Patterns.{IsBadField, all_of, begun, behind, behind_field, behind_prefix, behind_row, column, dump, ends_word, field, has_gap, is_of_prefix, marked, marked_by, marks_in, number_in, row, row_in, unmarked, with_bytes};
 
 use crate::read::digits::{append, spelled};
@@ -123,19 +123,6 @@ pub fn begun<'a>(parts: &[Part], line: &'a [u8]) -> Option<&'a [u8]>
     Some(rest)
 }
 
-/// Whether these parts may be the whole line, whatever their fields spell. In a dump they may.
-fn may_be(parts: &[Part], left: usize, line: &[u8]) -> bool
-    ensures { result ≡ false → marks_in parts.now left line.now ≡ None }
-{
-    if left > 0 {
-        return true;
-    }
-    match begun(parts, line) {
-        Some(rest) => rest.is_empty(),
-        None => false,
-    }
-}
-
 /// Returns what these parts mark if they are the whole line.
 ///
 /// # Errors
@@ -146,9 +133,6 @@ pub fn marks_in(alloc: Global, parts: &[Part], left: usize, line: &[u8]) -> Resu
     ensures says { IfOk result (λ m. marks_in parts.now left line.now ≡ Some (marked_by m)) }
     ensures refused { IfErr result (λ why. IsBadField why (marks_in parts.now left line.now)) }
 {
-    if !may_be(parts, left, line) {
-        return Err(LineFault::Hex);
-    }
     let mut marks = Marks::none(alloc);
     let mut rest = line;
     for &part in parts {

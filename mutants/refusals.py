@@ -3,8 +3,8 @@
 An edit changes the body of a function, and no contract. So what the prover says of that function
 depends on no other edit in the copy. `rt check --only` proves the changed functions and what they
 call, and names those without a proof. An edit is refused if its function has none and calls none
-without one. If it calls one, it is tried again alone. The crate itself must be proved: nothing here
-looks at that."""
+without one. If it calls one, it is tried again. The crate itself must be proved: nothing here looks
+at that."""
 
 import contextlib
 import os
@@ -29,9 +29,11 @@ def enclosing(lines, at):
 
 
 def owner(lines, at):
-    """The type and trait of the `impl` around line `at`, as the prover spells them."""
+    """The type and trait of the `impl` around line `at`, as the prover spells them. A type that
+    stands where others have a parameter is part of the name."""
     start = next(it for it in range(at, -1, -1) if re.match(r"(pub )?(impl|trait)\b", lines[it]))
     head = " ".join(lines[start:at]).split("{")[0]
+    head = re.sub(r"^impl (\w+)<(\w+)>(?! for )", r"impl \1+\2", head)
     before = None
     while before != head:
         before, head = head, re.sub(r"<[^<>]*>", "", head.replace("->", ""))
@@ -124,6 +126,8 @@ class Copy:
             done = subprocess.run(["rt", "check", "--jobs", "1", *only], cwd=folder, text=True,
                                   stdout=subprocess.PIPE, stderr=subprocess.STDOUT,
                                   stdin=subprocess.DEVNULL, errors="replace")
+            if only and "\nonly=" not in done.stdout:
+                print(f"{crate}: no answer about {', '.join(paths)}: {done.stdout[-300:]}")
             return done.stdout
         finally:
             for file, text in before.items():
@@ -131,16 +135,16 @@ class Copy:
 
     def outcomes(self, crate, edits):
         """Yields each edit with why the prover refuses it, or None. Those that are not refused in
-        one copy with others are tried alone."""
-        alone = []
+        one copy with others are tried again with fewer, and alone once that refuses none."""
+        alone = False
         while edits:
-            tried, edits = together(edits)
-            said = self.check(crate, tried)
+            tried, edits = (edits[:1], edits[1:]) if alone else together(edits)
+            said, left = self.check(crate, tried), []
             for it in tried:
                 why = it.refusal(said)
                 if why or len(tried) == 1:
                     yield it, why
                 else:
-                    alone.append(it)
-        for it in alone:
-            yield it, it.refusal(self.check(crate, [it]))
+                    left.append(it)
+            alone = left == tried
+            edits = left + edits

@@ -1,9 +1,9 @@
 -- A card's end sends a run of data characters, which is one turn for each.
-use Rattle.std.proofs.Common.{◌≡◌, ℕ, zero, suc, ◌+◌, ◌-◌, ◌<◌, ◌≤◌, List, [], ◌∷◌, length, take, drop, take-take, refl, sym, subst, ap, ◌∙◌, arith, inl, Bool, false, ◌&&◌, nat_lt, Some, add-zero}
+use Rattle.std.proofs.Common.{◌≡◌, ℕ, zero, suc, ◌+◌, ◌-◌, ◌<◌, ◌≤◌, List, [], ◌∷◌, length, take, drop, take_all, take-take, refl, sym, subst, ap, ◌∙◌, arith, inl, Bool, false, ◌&&◌, nat_lt, Some, add-zero}
 use Rattle.std.specs.Prelude.{min}
 use Rattle.std.specs.List.{slice_get}
 use Rattle.std.proofs.lemmas.Bool.{lt-ltb}
-use Rattle.std.proofs.Math.Nat.{min-eq_left, min-le_right}
+use Rattle.std.proofs.Math.Nat.{min-eq_left, min-eq_right, min-le_right}
 use Rattle.std.proofs.lemmas.List.{length-take-le}
 use Rattle.t0_core.specs.declared.tpdu_card.TpduCard.{Ghosts}
 use Rattle.t0_core.specs.declared.card_end.Phase.{Phase}
@@ -14,7 +14,7 @@ use Rattle.t0_core.specs.declared.service.Service.{Service}
 use Rattle.t0_core.specs.Meaning.{Prepared, Nothing, Receiving, Sending, Decided, IsSending}
 use Rattle.t0_core.specs.Plan.{Course, Cursor, plain}
 use Rattle.t0_core.specs.Front.{Front, In_header, In_body, After_first}
-use Rattle.t0_core.specs.CardSide.{EndOf, Stage, Taking_header, Refusing, Serving, Ending, StandsAt, Advances, comes_from_terminal, listens, left_to_send, one_moved, whole_of}
+use Rattle.t0_core.specs.CardSide.{EndOf, Stage, Taking_header, Refusing, Serving, Ending, StandsAt, Advances, comes_from_terminal, due_in, listens, left_to_send, one_moved, whole_of}
 use Rattle.t0_core.specs.CardView.{Fits, IsBegun, IsForgotten, skipped, so_many_moved, stage_of}
 use Rattle.t0_core.specs.CardSending.{AreDue, IsHandedOut}
 use Rattle.t0_core.specs.DataRun.{IsRunAt}
@@ -23,6 +23,31 @@ use Rattle.t0_core.proofs.CardLemmas.{sends_data}
 use Rattle.t0_core.proofs.CardTakingLemmas.{end_at}
 use Rattle.t0_core.proofs.HistoryLemmas.{turn_leads_on, turn_leads_under_on}
 use Rattle.t0_core.proofs.PlaceLemmas.{card_is_due}
+
+-- ---- how many are skipped
+
+-- no more than are left
+skipped_most : (phase : Phase) (came : List ℕ) (n k : ℕ) → k ≡ due_in (stage_of phase came)
+    → k ≤ n → skipped phase n ≡ skipped phase k
+skipped_most (Opening bytes taken) came n k is le = refl
+skipped_most (Refused header p3 status done) came n k is le = refl
+skipped_most (SecondStatus status) came n k is le = refl
+skipped_most (Accepted s) came n k is le =
+    let left = left_to_send s.direction s.moved s.until in
+    ap (λ m. Accepted (so_many_moved s m))
+    (min-eq_right {n = left} {m = n} (omega (arith, is, le))
+    ∙ sym (min-eq_right {n = left} {m = k} (omega (arith, is))))
+
+skipped_none : (phase : Phase) (came : List ℕ) (n : ℕ) → due_in (stage_of phase came) ≡ 0
+    → skipped phase n ≡ phase
+skipped_none (Opening bytes taken) came n none = refl
+skipped_none (Refused header p3 status done) came n none = refl
+skipped_none (SecondStatus status) came n none = refl
+skipped_none (Accepted s) came n none =
+    let left = left_to_send s.direction s.moved s.until in
+    ap (λ m. Accepted (record s { moved = m }))
+    (ap (λ k. s.moved + k) (min-eq_right {n = left} {m = n} (omega (arith, none)) ∙ none)
+    ∙ add-zero s.moved)
 
 -- ---- the bytes of a run
 
@@ -209,6 +234,18 @@ module _ {C : Type 0} (card : Ghosts C) (e : C) where
       (due_steps phase came run n fits
       (subst (λ (x : EndOf C). AreDue card x run) (sym is) due) le))
 
+  -- the same if it is to skip more than are left
+  pub skip_all : (phase next : Phase) (came run : List ℕ) (n : ℕ) (seen : EndOf C)
+      → Fits (card.prepared e) phase → end_at e (stage_of phase came) ≡ seen
+      → next ≡ skipped phase n → AreDue card seen run → length run ≡ due_in seen.stage
+      → length run ≤ n → Steps (IsHandedOut card) seen run (end_at e (stage_of next came))
+  skip_all phase next came run n seen fits is next_is due len le =
+      let left = len ∙ sym (ap (λ (x : EndOf C). due_in x.stage) is) in
+      subst (λ bs. Steps (IsHandedOut card) seen bs (end_at e (stage_of next came)))
+      (take_all (length run) run (omega arith))
+      (skip_steps phase next came run (length run) seen fits is
+      (next_is ∙ skipped_most phase came n (length run) left le) due (omega arith))
+
   -- the character that the end skips is sent
   pub one_skipped : (phase next : Phase) (came : List ℕ) (byte : ℕ) (seen : EndOf C)
       → Fits (card.prepared e) phase → end_at e (stage_of phase came) ≡ seen
@@ -218,6 +255,16 @@ module _ {C : Type 0} (card : Ghosts C) (e : C) where
       let one = skip_steps phase next came (byte ∷ []) 1 seen fits is next_is
       (subst (λ (x : EndOf C). AreDue card x (byte ∷ [])) is due) (omega arith) in
       subst (λ (x : EndOf C). IsHandedOut card seen byte x) (sym one.2) one.1
+
+-- without data to send the end stays as it was
+pub skip_none : {C : Type 0} (card : C) (phase next : Phase) (came : List ℕ) (n : ℕ)
+    (seen : EndOf C) → record { card = card; stage = stage_of phase came } ≡ seen
+    → next ≡ skipped phase n → due_in seen.stage ≡ 0
+    → record { card = card; stage = stage_of next came } ≡ seen
+skip_none {C = C} card phase next came n seen is next_is none =
+    let none_left = sym (sym none ∙ sym (ap (λ (x : EndOf C). due_in x.stage) is)) in
+    ap (λ (p : Phase). record { card = card; stage = stage_of p came })
+    (next_is ∙ skipped_none phase came n none_left) ∙ is
 
 -- what the card has prepared still suits the phase
 not_past : (d : Direction) (m u n : ℕ) → m ≤ u → m + min n (left_to_send d m u) ≤ u

@@ -1,5 +1,5 @@
 -- A whole TPDU, character by character, at a card's end.
-use Rattle.std.proofs.Common.{◌≡◌, ℕ, zero, suc, ◌==◌, ◌+◌, ◌<◌, ◌≤◌, ◌⊎◌, lit<, List, [], ◌∷◌, ◌++◌, length, take, drop, get_or, refl, sym, subst, ◌∙◌, ap, arith, inl, inr, true, false, Bool, nat_lt, if◌then◌else◌, Option, Some, None, Result, Ok, length-append, append-nil, append_assoc}
+use Rattle.std.proofs.Common.{◌≡◌, ℕ, zero, suc, ◌==◌, ◌+◌, ◌<◌, ◌≤◌, ◌⊎◌, lit<, List, [], ◌∷◌, ◌++◌, length, take, drop, get_or, refl, sym, subst, ◌∙◌, ap, arith, inl, inr, true, false, Bool, nat_lt, if◌then◌else◌, Option, Some, None, length-append, append-nil, append_assoc}
 use Rattle.std.specs.List.{slice_get, flat_map}
 use Rattle.std.specs.Option.{MatchOption, SomeIff}
 use Rattle.std.proofs.lemmas.Bool.{ltb-true, ltb-false, lt-ltb, eqb-true, eq-eqb}

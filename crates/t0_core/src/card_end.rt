@@ -137,7 +137,9 @@ impl<C: TpduCard> CardEnd<C> {
     /// The buffer for the terminal's data. It starts with those of the current TPDU. Between TPDUs,
     /// and while a header comes in, it holds zeros, so nothing is left of the last TPDU.
     pub fn held(&self) -> &[u8; 255]
-        ensures { (bytes : List ℕ) → self.now.stage ≡ Taking_header bytes →
+        ensures begins { (s : Service) (bytes : List ℕ) → self.now.stage ≡ Serving s bytes →
+            bytes ≡ take s.moved result.now }
+        ensures between { (bytes : List ℕ) → self.now.stage ≡ Taking_header bytes →
             result.now ≡ replicate 255 0 }
     {
         &self.came
@@ -338,8 +340,12 @@ impl<C: TpduCard> CardEnd<C> {
     /// `count` is more than the card sends next, it counts all of these.
     #[inline(always)]
     pub fn skip_data(&mut self, count: usize)
-        ensures { (run : List ℕ) → AreDue C.TpduCard self.old run → count ≤ length run →
+        ensures some { (run : List ℕ) → AreDue C.TpduCard self.old run → count ≤ length run →
             Steps (IsHandedOut C.TpduCard) self.old (take count run) self.new }
+        ensures all { (run : List ℕ) → AreDue C.TpduCard self.old run →
+            length run ≡ due_in self.old.stage → length run ≤ count →
+            Steps (IsHandedOut C.TpduCard) self.old run self.new }
+        ensures none { due_in self.old.stage ≡ 0 → self.new ≡ self.old }
     {
         skip_in(&mut self.phase, count);
     }

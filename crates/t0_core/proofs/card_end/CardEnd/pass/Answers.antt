@@ -37,7 +37,7 @@ returns-in-Some-data_due-clause-passes g c = λ first before on.
     (passes_run card first plan asked before c.args.gather.now.bytes (take run.result all) old new
     c.in-OfCard.place on (sym c.in-OfCard.ensures) (omega (arith, some, len))
     (omega (arith, run.ensures.within, len, c.if-place-from.false))
-    (c.skip_data.ensures all due run.ensures.fits))
+    (c.skip_data.ensures.some all due run.ensures.fits))
 
 pub returns-in-Some-clause-passes : goal.returns-in-Some-clause-passes
 returns-in-Some-clause-passes g c = λ first before on.

@@ -61,7 +61,9 @@ class Edit:
     def __init__(self, fault, folder, name):
         self.name, self.fault = name, fault
         text = (folder / fault.file).read_text(encoding="utf-8")
-        self.functions = {function_at(fault.file, text, text.find(old)) for old, _ in fault.pairs}
+        start, _ = fault.piece(text)
+        self.functions = {function_at(fault.file, text, text.find(old, start))
+                          for old, _ in fault.pairs}
 
     def refusal(self, said):
         """Why its function has no proof of its own, or None."""

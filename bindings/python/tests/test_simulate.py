@@ -256,9 +256,9 @@ def test_a_delay(vpcd):
 
 @pytest.mark.parametrize(
     ("table", "line"),
-    [("object 50 AA", 1), ("app A0", 1), (f"app {AID}\napp {AID}", 2), ("\n# a\nnonsense", 3),
-     (f"app {AID}\nobject 50", 2), (f"app {AID}\nobject 50 A", 2), ("atr 3B00\natr 3B00", 2),
-     (f"app {AID}\nobject 5F 00", 2)],
+    [("object 50 AA", 1), (f"app A0\napp {AID}", 1), (f"app {AID}\napp {AID}", 2),
+     ("\n# a\nnonsense", 3), (f"app {AID}\nobject 50", 2), (f"app {AID}\nobject 50 A", 2),
+     ("atr 3B00\natr 3B00", 2), (f"app {AID}\nobject 5F 00\nobject 50 00", 2)],
 )
 def test_a_wrong_table(tmp_path, table, line):
     (tmp_path / "table").write_text(table)

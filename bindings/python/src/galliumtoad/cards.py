@@ -35,9 +35,7 @@ def read_table(path: str) -> tuple[Card, bytes]:
         for line, words in enumerate(Path(path).read_text("utf-8").splitlines(), 1):
             where = f"{path}: line {line}"
             kind, *rest = words.split() or ["#"]
-            if kind[0] == "#":
-                continue
-            given = [bytes.fromhex("" if it == "-" else it) for it in rest]
+            given = [bytes.fromhex("" if it == "-" else it) for it in rest if kind[0] != "#"]
             if (kind, len(given)) == ("app", 1) and given[0] not in tables:
                 tables[given[0]] = {}
             elif (kind, len(given)) == ("atr", 1) and not atr:
@@ -46,8 +44,9 @@ def read_table(path: str) -> tuple[Card, bytes]:
                 aid, tag = [*tables][-1], int.from_bytes(given[0], "big")
                 tables[aid][tag] = given[1]
                 locked += [(aid, tag)] if kind == "locked" else []
-            else:
+            elif kind[0] != "#":
                 raise ValueError("not a line of a table")
+            Card(tables, locked)  # refuses what this line adds
         return Card(tables, locked), atr or LEAST_ATR
     except (OSError, ValueError, Error) as why:
         raise Mistake(f"{where}: {why}") from None

@@ -110,6 +110,8 @@ static bool add_line(struct script *script, size_t number, char *line, size_t n,
     size_t count = 0;
     if (line[0] == '#')
         return true;
+    if (strncmp(line, "\xEF\xBB\xBF", 3) == 0)
+        return refuse_step(refusal, script, number, OPERATION_UNKNOWN_WORD ": a byte order mark");
     if (strlen(line) != n)
         return refuse_step(refusal, script, number, OPERATION_UNKNOWN_WORD);
     while (count <= OPERATION_WORDS && (words[count] = text_word(&line)) != NULL)

@@ -290,7 +290,7 @@ const char *line_refuse_echo(struct line *line, const uint8_t *header, size_t n,
     for (same = 0; same < n; same++) {
         const enum port_result result = come_in(line, same + 1, then);
         if (result != PORT_IS_WELL)
-            return same == 0 && result != PORT_IS_CUT ? text_of(result) : NULL;
+            return same == 0 ? text_of(result) : NULL;
         if (by_convention(line, line->come[same].raw) != header[same])
             return NULL;
         then = port_now() + LINE_ECHO_LATE;

@@ -238,10 +238,7 @@ impl<'r, R: Read> Trace<'r, R> {
             if self.is_over || self.passed < self.kept().len() {
                 break;
             }
-            self.explainer.teller.keeping.all.clear();
-            self.passed = 0;
-            self.explainer.teller.output.sheet.clear();
-            self.read()?;
+            self.renew()?;
         }
         if self.passed >= self.kept().len()
             && let Some(fault) = self.fault.take()
@@ -249,6 +246,14 @@ impl<'r, R: Read> Trace<'r, R> {
             return Err(DiffFault::Trace(self.name, fault));
         }
         Ok(self.kept().get(self.passed))
+    }
+
+    /// Reads one more chunk in place of the kept TPDUs.
+    fn renew(&mut self) -> Result<(), AllocError> {
+        self.explainer.teller.keeping.all.clear();
+        self.passed = 0;
+        self.explainer.teller.output.sheet.clear();
+        self.read()
     }
 
     /// Returns the kept TPDUs.

@@ -133,9 +133,9 @@ def test_the_package_stays_small():
 
 
 def test_the_simulation_stays_small():
-    """Its modules, and each of their functions."""
+    """Its modules (900 lines without docstrings and comments), and each of their functions."""
     files = [TOP / "src" / "galliumtoad" / it for it in SIMULATION]
-    assert 800 < sum(len(it.read_text().splitlines()) for it in files) <= 1021
+    assert 800 < sum(len(it.read_text().splitlines()) for it in files) <= 1020
     short_functions(files)
 
 

@@ -18,5 +18,5 @@ returns g c = λ cursor s on.
     run_passed card s (take count all)
     (line c.args.exchange.now c.args.end.now cursor (hearing c.args.watch.now))
     c.take_data-count.new.self c.skip_data.new.self (hearing c.hear.new.watch) on
-    c.take_data-count.ensures.taken (c.skip_data.ensures.some all due c.take_data-count.ensures.fits)
-    c.hear.ensures
+    c.take_data-count.ensures.taken
+    (c.skip_data.ensures.some all due c.take_data-count.ensures.fits) c.hear.ensures

@@ -7,7 +7,7 @@ import re
 
 import pytest
 from galliumtoad.batch.journal import Heading
-from room import Room, ended, listed
+from room import Room, listed
 
 NOT_TOLD = "without --id it can't tell cards apart: a card inserted twice gets two rows\n"
 
@@ -270,12 +270,3 @@ def test_rows_may_not_go_away(tmp_path):
     assert "journal is damaged: no line of a journal, or no row of the table: begin 2" in (
         room.run("--status")[2]
     )
-
-
-def test_a_row_in_progress_is_not_to_be_decided(tmp_path):
-    room = Room(tmp_path, 2)
-    room.create()
-    journal = room.opened(2)
-    assert journal.reserve() == 1
-    other = room.start_program(room.words("--status"))
-    assert ended(other)[0] == "0 of 2 rows done, 0 to decide\n"

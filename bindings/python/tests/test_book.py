@@ -1,20 +1,12 @@
-"""Runs the book of scripts through the package. Each prints its stored output."""
+"""Runs the plays of the book through the package. Each prints its stored output."""
 
 from pathlib import Path
 
 import pytest
-from galliumtoad import T1, Atr, BlockError, CallError, Card, Get, Level, Outcome, Put, Select, Send
-from galliumtoad import Session, Terminal
+from galliumtoad import CallError, Card, Get, Level, Put, Select, Send, Session, Terminal
 
 BOOK = Path(__file__).resolve().parents[3] / "examples"
 PLAYS = sorted(BOOK.rglob("*.play"))
-CARDS = sorted(it for it in BOOK.rglob("*.card") if it.parent.name != "memory")
-TALKS = sorted(BOOK.rglob("*.talk"))
-KNOWN = {
-    Outcome.NOT_CARRIED_OUT: "the card has not carried out the command",
-    Outcome.UNKNOWN: "the card may have carried out the command",
-    Outcome.IN_PART: "the card has carried out the command",
-}
 
 
 def value(word):
@@ -139,70 +131,6 @@ def test_each_transport_has_the_same_answers(script):
                 elif line[0] not in ("plan", "table") and (answer := next(answers))[0] == "=":
                     assert shown(*terminal.run(reader, operation(line))) == answer
         assert list(answers) == []
-
-
-@pytest.mark.parametrize("script", TALKS, ids=lambda it: str(it.relative_to(BOOK)))
-def test_talk(script):
-    """The card's blocks of T=1 are those of the script."""
-    every = lines(script)
-    blocks = [it for it in every if it[0] in "<>~"]
-    wanted = [" ".join(it) for it in every if it[0] in "=!"]
-    atr = Atr(bytes.fromhex(blocks.pop(0)[1]))
-
-    def line(data, waits):
-        if data:
-            assert blocks.pop(0)[:2] == [">", data.hex().upper()]
-        is_late = bool(blocks) and blocks[0][0] == "~" and bool(blocks.pop(0))
-        if not blocks or blocks[0][0] != "<":
-            return b""
-        assert waits > 1 or not is_late
-        return bytes.fromhex(blocks.pop(0)[1])
-
-    printed = []
-    with T1(line, atr.t1.edc, atr.t1.ifsc) as end, Terminal() as terminal:
-        for number, words in enumerate((it for it in every if it[0] not in "<>~=!"), 1):
-            try:
-                printed.append(shown(*terminal.run(end, operation(words))))
-            except BlockError as error:
-                printed.append(f"! operation {number}: {error}: {KNOWN[error.outcome]}")
-    assert printed == wanted and blocks == []
-
-
-def sent(card, words, answer):
-    """The output of `card_trace card` for one line. The bytes of the answer to reset come first."""
-    if words[0] == ">":
-        given = bytes.fromhex(words[1])
-        taken = 0 if answer else card.receive_bytes(given)
-        if taken < len(given):
-            yield "! not listening"
-    else:
-        room = int(words[1]) if len(words) > 1 else 1 << 20
-        handed = bytes(answer[:room]) if answer else card.send_bytes(room)
-        del answer[:room]
-        yield f"< {handed.hex().upper()}".rstrip()
-
-
-def answered(script):
-    card, words = built([it for it in lines(script) if it[0] not in ("plan", "atr")])
-    for line in lines(script):
-        if line[0] == "plan":
-            card.plan(line[1].replace("-", ""), int(line[2]))
-    atr = next((bytes.fromhex(it[1]) for it in lines(script) if it[0] == "atr"), b"")
-    answer = bytearray(atr)
-    for line in words:
-        if line[0] == "reset":
-            card.reset()
-            answer = bytearray(atr)
-            yield "reset"
-        elif line[0] == "table":
-            yield from table(card)
-        else:
-            yield from sent(card, line, answer)
-
-
-@pytest.mark.parametrize("script", CARDS, ids=lambda it: str(it.relative_to(BOOK)))
-def test_card(script):
-    assert list(answered(script)) == script.with_suffix(".out").read_text().splitlines()
 
 
 def test_a_busy_card_is_named():

@@ -1,74 +1,24 @@
-"""Compares T=1 with a dict, over a line that damages and loses blocks. The card's end is that of
-checks/serial."""
-
-import sys
-from pathlib import Path
+"""Tests the terminal's end at T=1: what its line is given, and that it gives up."""
 
 import pytest
-from galliumtoad import T1, BlockError, CallError, Get, Level, Outcome, Select, Terminal
-from hypothesis import given, settings
-from hypothesis import strategies as st
-from test_model import OPERATIONS, compare, held, new_card
-
-sys.path.insert(0, str(Path(__file__).resolve().parents[3] / "checks" / "serial"))
-import t1_card  # noqa: E402
-
-
-class Objects:
-    def __init__(self, card):
-        self.card, self.log = card, []
-
-    def carry_out(self, command):
-        self.log.append(command)
-        return self.card.apdu(command)
-
-
-class Line:
-    """A line with a card. It returns each block in two parts."""
-
-    def __init__(self, card, noise):
-        self.end, self.noise, self.left = t1_card.Card(Objects(card)), noise, b""
-
-    def passed(self, data):
-        fate = self.noise.next()
-        return data if fate in ("well", "late") else self.noise.change(data, fate)
-
-    def __call__(self, data, waits):
-        if data:
-            came = self.passed(data)
-            answer = self.end.take(came) if came else b""
-            self.left = self.passed(answer) if answer else b""
-        cut = max(1, len(self.left) // 2)
-        came, self.left = self.left[:cut], self.left[cut:]
-        return came
-
-
-@settings(max_examples=150, deadline=None)
-@given(OPERATIONS, st.integers(0, 1 << 30), st.sampled_from([0.8, 0.95, 1]))
-def test_beside_a_dict(operations, seed, well):
-    card, model = new_card()
-    line = Line(card, t1_card.Noise(seed, well=well))
-    with T1(line) as end, Terminal() as terminal:
-        for asked in operations:
-            try:
-                compare(model, asked, terminal.run(end, asked))
-            except BlockError as error:
-                assert well < 1 and error.name in ("GT_TRIES_SPENT", "GT_EXTENSIONS_SPENT")
-                return
-        assert held(card) == model.tables
+from galliumtoad import T1, BlockError, Card, CallError, Get, Level, Outcome, Select, Terminal
+from galliumtoad.faults import block
+from galliumtoad.simulate import Line, Simulator
+from test_faults import End
 
 
 def test_gives_up():
-    card, _ = new_card()
-    line = Line(card, t1_card.Noise(1, fates=dict.fromkeys(range(1, 99), "lost")))
-    with T1(line) as end, Terminal() as terminal:
+    """On a line that loses all. After a reset of the end it talks to a card."""
+    end_of_card = End(Simulator(Card({bytes(5): {}}), b"\x3b\x80\x01\x81"), Line.talk_t1)
+    lines = [lambda data, waits: b"", end_of_card.pass_block]
+    with T1(lambda *words: lines[0](*words)) as end, Terminal() as terminal:
         with pytest.raises(BlockError) as error:
             terminal.run(end, Select(bytes(5)))
         assert error.value.outcome is Outcome.UNKNOWN
         with pytest.raises(CallError):
             terminal.run(end, Get(0x50))
         end.reset()
-        line.noise.fates = {}
+        del lines[0]
         assert terminal.run(end, Select(bytes(5))).status.is_ok
 
 
@@ -87,7 +37,7 @@ def test_time_and_size():
     def line(data, waits):
         seen.append((data[1], data[2], waits))
         answers = {0xC1: (0xE1, data[3:-1]), 0x20: (0x90, b""), 0x40: (0xC3, b"\x03")}
-        return t1_card.block(*answers.get(data[1], (0x00, b"\x90\x00")))
+        return block(0, *answers.get(data[1], (0x00, b"\x90\x00")))
 
     with T1(line, ifsc=8) as end:
         assert end.level is Level.APDU

@@ -2,17 +2,90 @@
 //! ISO/IEC 7816-3, clauses 8, 9 and 11, and EMV Book 1.
 
 use galliumtoad::{version, version_fits, Pps, PpsError, PPS_LIMIT};
-use galliumtoad::{Atr, AtrReason, Category, ClockStop, Convention, Edc, Mode};
-use galliumtoad::{Waits, PROTOCOLS_LIMIT};
+use galliumtoad::{Atr, AtrReason, Waits, PROTOCOLS_LIMIT};
 use std::time::Duration;
 
 fn atr(bytes: &[u8]) -> Atr<'_> {
     Atr::read(bytes).expect("an answer to reset")
 }
 
-/// The classes of voltage, A, B and C.
-fn classes(atr: Atr<'_>) -> Option<[bool; 3]> {
-    atr.classes.map(|it| [it.a, it.b, it.c])
+/// Answers to reset, and below each what `Debug` shows of some fields.
+const ANSWERS: &str = "
+3B6500002063CB6800
+  convention: Direct, names_15: false, rate_code: 17, fi: Some(372), max_khz: Some(5000)
+  di: Some(1), extra_guard_time: 0, waiting_integer: Some(10), waiting_time: Some(3571200)
+  mode: Negotiable, clock_stop: NotSupported
+  classes: Some(Classes { a: true, b: false, c: false }), historical: [32, 99, 203, 104, 0]
+  category: Proprietary
+3BE000FF8131FE4514
+  extra_guard_time: 255
+  ifsc: Some(254), edc: Some(Lrc), block_waiting_integer: Some(4), character_waiting_integer: 5
+  character_waiting_time: 43
+  historical: [], category: Absent
+3B9F96801FC78031A073BE21136743200718000001A5
+  names_15: true, rate_code: 150, fi: Some(512), max_khz: Some(5000), di: Some(32)
+  waiting_time: Some(4915200)
+  clock_stop: AtEither, classes: Some(Classes { a: true, b: true, c: true })
+  historical: [128, 49, 160, 115, 190, 33, 19, 103, 67, 32, 7, 24, 0, 0, 1], category: Objects
+3F00
+  convention: Inverse
+  ifsc: Some(32), edc: Some(Lrc), block_waiting_integer: Some(4), character_waiting_integer: 13
+  character_waiting_time: 8203
+  block_waiting_time: Some(BlockWaitingTime { etu: 11, cycles: 5713920 }), block_guard_time: 22
+3B1071
+  fi: None, max_khz: None, di: Some(1)
+  waiting_time: None
+3B109A
+  max_khz: Some(5000), di: None
+3B804000
+  waiting_integer: None, waiting_time: None
+3B8081A192F15045011160A6
+  ifsc: Some(80), edc: Some(Crc), block_waiting_integer: Some(9), character_waiting_integer: 2
+  character_waiting_time: 15
+  block_waiting_time: Some(BlockWaitingTime { etu: 11, cycles: 182845440 }), block_guard_time: 22
+3B8081210020
+  block_waiting_integer: Some(0), character_waiting_integer: 0, character_waiting_time: 12
+  block_waiting_time: Some(BlockWaitingTime { etu: 11, cycles: 357120 })
+3B808121AF8F
+  block_waiting_integer: None, character_waiting_integer: 15, character_waiting_time: 32779
+  block_waiting_time: None
+3B8081110010
+  ifsc: None
+3B8081410242
+  edc: None
+3B90111000
+  mode: Specific { t: 0, can_change: true, is_implicit: false }
+3B90111080
+  mode: Specific { t: 0, can_change: false, is_implicit: false }
+3B9011111181
+  mode: Specific { t: 1, can_change: true, is_implicit: true }
+3B80801F425D
+  clock_stop: AtLow, classes: Some(Classes { a: false, b: true, c: false })
+3B80801F849B
+  clock_stop: AtHigh, classes: Some(Classes { a: false, b: false, c: true })
+3B80801F051A
+  classes: None
+3B0100
+  category: StatusBehind
+3B0110
+  category: DirReference
+3B018F
+  category: Reserved
+";
+
+#[test]
+fn each_field_is_told() {
+    let mut bytes = Vec::new();
+    for line in ANSWERS.lines() {
+        if let Some(fields) = line.strip_prefix("  ") {
+            let shown = format!("{:?}", atr(&bytes));
+            assert!(shown.contains(&format!(" {fields}")), "{fields}: {shown}");
+        } else {
+            let pairs = (0..line.len()).step_by(2);
+            let byte = |at| u8::from_str_radix(&line[at..at + 2], 16).expect("digits");
+            bytes = pairs.map(byte).collect();
+        }
+    }
 }
 
 /// The guard times for T=0 and T=1: each in etu, and in units of Fi/Di cycles.
@@ -24,176 +97,22 @@ fn guards(bytes: &[u8]) -> [(u16, u16); 2] {
 }
 
 #[test]
-fn the_basic_answer_of_t_0() {
-    let bytes = b"\x3B\x65\x00\x00\x20\x63\xCB\x68\x00";
-    let atr = atr(bytes);
-    assert_eq!(atr.convention, Convention::Direct);
-    assert_eq!(atr.protocols(), [0]);
-    assert!(!atr.names_15);
-    assert_eq!((atr.rate_code, atr.fi, atr.di), (0x11, Some(372), Some(1)));
-    assert_eq!(atr.max_khz, Some(5_000));
-    assert_eq!(atr.extra_guard_time, 0);
-    assert_eq!(atr.waiting_integer, Some(10));
-    assert_eq!(atr.waiting_time, Some(10 * 960 * 372));
-    assert_eq!(atr.mode, Mode::Negotiable);
-    assert_eq!(atr.clock_stop, ClockStop::NotSupported);
-    assert_eq!(classes(atr), Some([true, false, false]));
-    assert_eq!(atr.historical, &bytes[4..]);
-    assert_eq!(atr.category, Category::Proprietary);
-    assert_eq!(guards(bytes), [(12, 0), (12, 0)]);
-}
-
-#[test]
-fn the_basic_answer_of_t_1() {
-    let bytes = b"\x3B\xE0\x00\xFF\x81\x31\xFE\x45\x14";
-    let read = atr(bytes);
-    assert_eq!(read.protocols(), [1]);
-    assert_eq!(read.historical, b"");
-    assert_eq!(read.category, Category::Absent);
-    assert_eq!(read.extra_guard_time, 255);
-    assert_eq!(guards(bytes), [(12, 0), (11, 0)]);
-    assert_eq!(atr(b"\x3F\x00").convention, Convention::Inverse);
-}
-
-#[test]
 fn guard_times_go_by_t_15() {
-    assert_eq!(guards(b"\x3B\x40\x05"), [(17, 0), (17, 0)]);
     assert_eq!(guards(b"\x3B\xC0\x05\x80\x1F\x03\x59"), [(12, 5), (12, 5)]);
     assert_eq!(guards(b"\x3B\xC0\xFF\x80\x1F\x03\xA3"), [(12, 0), (11, 0)]);
-    assert_eq!(atr(b"\x3B\x40\x05").guard_time(14).etu, 17);
     assert_eq!(atr(b"\x3B\x40\xFF").guard_time(2).etu, 12);
-}
-
-#[test]
-fn an_answer_of_a_phone() {
-    let bytes = b"\x3B\x9F\x96\x80\x1F\xC7\x80\x31\xA0\x73\xBE\x21\x13\x67\x43\x20\x07\x18\x00\x00\
-        \x01\xA5";
-    let atr = atr(bytes);
-    assert_eq!(atr.protocols(), [0]);
-    assert!(atr.names_15);
-    assert_eq!((atr.rate_code, atr.fi, atr.di), (0x96, Some(512), Some(32)));
-    assert_eq!(atr.waiting_time, Some(10 * 960 * 512));
-    assert_eq!(atr.clock_stop, ClockStop::AtEither);
-    assert_eq!(classes(atr), Some([true; 3]));
-    assert_eq!(atr.historical, &bytes[6..21]);
-    assert_eq!(atr.category, Category::Objects);
+    assert_eq!(atr(b"\x3B\x40\xFF").guard_time(15).etu, 12);
 }
 
 #[test]
 fn protocols_are_told_in_order() {
-    assert_eq!(atr(b"\x3B\x80\x80\x01\x01").protocols(), [0, 1]);
+    assert_eq!(atr(b"\x3B\x00").protocols(), [0]);
     assert_eq!(atr(b"\x3B\x80\x8E\x0F\x01").protocols(), [14]);
     let all =
         b"\x3B\x80\x80\x81\x82\x83\x84\x85\x86\x87\x88\x89\x8A\x8B\x8C\x8D\x0E\x8F".as_slice();
     let protocols: Vec<u8> = (0..15).collect();
     assert_eq!(atr(all).protocols(), protocols);
     assert_eq!(atr(all).protocols().len(), PROTOCOLS_LIMIT);
-}
-
-#[test]
-fn what_a_reserved_code_says_is_none() {
-    let read = atr(b"\x3B\x10\x71");
-    assert_eq!((read.fi, read.max_khz), (None, None));
-    assert_eq!((read.di, read.waiting_time), (Some(1), None));
-    assert_eq!(atr(b"\x3B\x10\x9A").di, None);
-    assert_eq!(atr(b"\x3B\x10\x9A").max_khz, Some(5_000));
-    let read = atr(b"\x3B\x80\x40\x00");
-    assert_eq!((read.waiting_integer, read.waiting_time), (None, None));
-    assert!(atr(b"\x3B\x80\x80\x1F\x05\x1A").classes.is_none());
-}
-
-/// The values for T=1: IFSC, error detection code, BWI, BWT in etu and cycles, CWI and CWT.
-type OfT1 = (
-    Option<u8>,
-    Option<Edc>,
-    Option<u8>,
-    Option<(u16, u64)>,
-    u8,
-    u16,
-);
-
-fn of_t_1(bytes: &[u8]) -> OfT1 {
-    let atr = atr(bytes);
-    assert_eq!(atr.block_guard_time, 22);
-    (
-        atr.ifsc,
-        atr.edc,
-        atr.block_waiting_integer,
-        atr.block_waiting_time.map(|time| (time.etu, time.cycles)),
-        atr.character_waiting_integer,
-        atr.character_waiting_time,
-    )
-}
-
-/// BWT is 11 etu and 2^BWI * 960 * 372 cycles. CWT is 11 + 2^CWI etu.
-#[test]
-fn values_of_t_1() {
-    let plain: OfT1 = (
-        Some(32),
-        Some(Edc::Lrc),
-        Some(4),
-        Some((11, 5_713_920)),
-        13,
-        8_203,
-    );
-    assert_eq!(of_t_1(b"\x3B\x00"), plain);
-    let (ifsc, edc, bwi, bwt, ..) = plain;
-    let emv = (Some(254), edc, bwi, bwt, 5, 43);
-    assert_eq!(of_t_1(b"\x3B\xE0\x00\xFF\x81\x31\xFE\x45\x14"), emv);
-    // those after TD1 are not for T=1
-    assert_eq!(of_t_1(b"\x3B\x80\xF1\x01\x91\x01\x01\xE1"), plain);
-    let two = b"\x3B\x80\x81\xA1\x92\xF1\x50\x45\x01\x11\x60\xA6";
-    let first = (
-        Some(80),
-        Some(Edc::Crc),
-        Some(9),
-        Some((11, 182_845_440)),
-        2,
-        15,
-    );
-    assert_eq!(of_t_1(two), first);
-    let least = (ifsc, edc, Some(0), Some((11, 357_120)), 0, 12);
-    assert_eq!(of_t_1(b"\x3B\x80\x81\x21\x00\x20"), least);
-    let reserved = (ifsc, edc, None, None, 15, 32_779);
-    assert_eq!(of_t_1(b"\x3B\x80\x81\x21\xAF\x8F"), reserved);
-    assert_eq!(atr(b"\x3B\x80\x81\x11\x00\x10").ifsc, None);
-    assert_eq!(atr(b"\x3B\x80\x81\x11\xFF\xEF").ifsc, None);
-    assert_eq!(atr(b"\x3B\x80\x81\x41\x02\x42").edc, None);
-}
-
-#[test]
-fn modes_clock_stops_and_classes() {
-    let specific = |t, can_change, is_implicit| Mode::Specific {
-        t,
-        can_change,
-        is_implicit,
-    };
-    let mode = |bytes| atr(bytes).mode;
-    assert_eq!(mode(b"\x3B\x90\x11\x10\x00"), specific(0, true, false));
-    assert_eq!(mode(b"\x3B\x90\x11\x10\x80"), specific(0, false, false));
-    assert_eq!(mode(b"\x3B\x90\x11\x11\x11\x81"), specific(1, true, true));
-    let stop = |bytes| atr(bytes).clock_stop;
-    assert_eq!(stop(b"\x3B\x80\x80\x1F\x41\x5E"), ClockStop::AtLow);
-    assert_eq!(stop(b"\x3B\x80\x80\x1F\x81\x9E"), ClockStop::AtHigh);
-    assert_eq!(stop(b"\x3B\x80\x80\x1F\xC1\xDE"), ClockStop::AtEither);
-    for (bytes, wanted) in [
-        (b"\x3B\x80\x80\x1F\x01\x1E", [true, false, false]),
-        (b"\x3B\x80\x80\x1F\x02\x1D", [false, true, false]),
-        (b"\x3B\x80\x80\x1F\x04\x1B", [false, false, true]),
-    ] {
-        assert_eq!(classes(atr(bytes)), Some(wanted));
-    }
-}
-
-#[test]
-fn categories_go_by_the_first_byte() {
-    let category = |first| atr(&[0x3B, 0x01, first]).category;
-    assert_eq!(category(0x00), Category::StatusBehind);
-    assert_eq!(category(0x10), Category::DirReference);
-    assert_eq!(category(0x80), Category::Objects);
-    assert_eq!(category(0x81), Category::Reserved);
-    assert_eq!(category(0x8F), Category::Reserved);
-    assert_eq!(category(0x90), Category::Proprietary);
 }
 
 #[test]

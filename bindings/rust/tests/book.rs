@@ -1,23 +1,21 @@
-//! Runs the book of examples: each script by every way from a terminal to a card, the characters to
-//! a card alone, and the dialogues of a terminal at T=1. What they print is stored beside them.
-//! `card_trace`, `gt_pcsc`, `gt_serial` and the package for Python run the same book.
+//! Runs the plays of the book of examples over whole TPDUs, commands and blocks, and in a session.
+//! What they print is stored beside them. `card_trace`, `gt_pcsc`, `gt_serial` and the package for
+//! Python run the same plays.
 
-use galliumtoad::{whole_commands, Answer, Atr, Card, CardBuilder, CardT1, End, Entry};
-use galliumtoad::{
-    Line, Operation, Session, Stop, T1Limits, T1Line, Terminal, Turn, BLOCK_LIMIT, T1,
-};
+use galliumtoad::{whole_commands, Answer, Atr, Card, CardBuilder, CardT1, End, Entry, Line};
+use galliumtoad::{Operation, Session, T1Limits, T1Line, Terminal, BLOCK_LIMIT, T1};
 use std::collections::VecDeque;
 use std::fs;
 use std::path::{Path, PathBuf};
 use std::time::Duration;
 
-/// The files of the book with this ending, by its index.
-fn book(ending: &str) -> Vec<PathBuf> {
+/// The plays of the book, by its index.
+fn book() -> Vec<PathBuf> {
     let book = Path::new(env!("CARGO_MANIFEST_DIR")).join("../../examples");
     let index = text(&book.join("README.md"));
     let rows = index.lines().filter_map(|it| it.strip_prefix("| `"));
     let names = rows.filter_map(|it| it.split('`').next());
-    let found = names.filter(|it| it.ends_with(ending));
+    let found = names.filter(|it| it.ends_with(".play"));
     found.map(|it| book.join(it)).collect()
 }
 
@@ -51,12 +49,6 @@ fn value(word: &str) -> Vec<u8> {
         Some((byte, count)) => bytes(byte).repeat(count.parse().expect("a count")),
         None => bytes(word.trim_start_matches('-')),
     }
-}
-
-/// A plan's letters and its cut.
-fn plan<'a>(line: &[&'a str]) -> (&'a str, u16) {
-    let steps = line[1].trim_start_matches('-');
-    (steps, line[2].parse().expect("a number"))
 }
 
 /// Builds the card of the first lines of a script. Returns the other lines too.
@@ -131,7 +123,7 @@ fn printed(lines: &[Vec<&str>], ends: &mut impl Ends) -> Vec<String> {
     let (mut plans, mut printed, mut is_busy) = (vec![], vec![], false);
     for line in lines {
         match line[0] {
-            "plan" => plans.push(plan(line)),
+            "plan" => plans.push((line[1].trim_start_matches('-'), line[2])),
             "reset" => {
                 ends.reset();
                 is_busy = false;
@@ -143,9 +135,9 @@ fn printed(lines: &[Vec<&str>], ends: &mut impl Ends) -> Vec<String> {
                 printed.push("! card busy".to_owned());
             }
             name => {
-                plans
-                    .drain(..)
-                    .for_each(|(steps, cut)| ends.plan(steps, cut));
+                for (steps, cut) in plans.drain(..) {
+                    ends.plan(steps, cut.parse().expect("a number"));
+                }
                 let answer = operation(line, |it| ends.run(it));
                 is_busy = name == "send" && line[1].starts_with('1') && answer.status.is_ok();
                 printed.extend(ends.turns());
@@ -158,7 +150,7 @@ fn printed(lines: &[Vec<&str>], ends: &mut impl Ends) -> Vec<String> {
 
 /// Runs each script of the book with these ends, and compares what it prints.
 fn plays<E: Ends>(has_turns: bool, ends: impl Fn(Card) -> E) {
-    let plays = book(".play");
+    let plays = book();
     assert!(plays.len() > 40);
     for play in plays {
         let (script, output) = (text(&play), text(&play.with_extension("out")));
@@ -199,44 +191,9 @@ fn over_commands(terminal: &mut Terminal, card: &mut Card, operation: Operation<
     terminal.run(&mut reader, operation).expect("an answer")
 }
 
-fn by_characters(terminal: &mut Terminal, card: &mut Card, operation: Operation<'_>) -> Answer {
-    terminal.begin(operation).expect("begun");
-    loop {
-        match terminal.turn().expect("a turn") {
-            Turn::Sends(byte) => card.take(byte).expect("taken"),
-            Turn::Done => return terminal.answer().expect("an answer"),
-            Turn::Listens => match card.turn().expect("a turn") {
-                Turn::Sends(byte) => terminal.take(byte).expect("taken"),
-                other => panic!("{other:?}"),
-            },
-        }
-    }
-}
-
-/// Each buffer has another size, so that pieces end anywhere.
-fn by_buffers(terminal: &mut Terminal, card: &mut Card, operation: Operation<'_>) -> Answer {
-    let mut room = [0; 300];
-    terminal.begin(operation).expect("begun");
-    for size in (1..room.len()).cycle() {
-        let sent = terminal.send_bytes(&mut room[..size]).expect("sent");
-        card.receive_bytes(&room[..sent.count]).expect("taken");
-        match sent.stop {
-            Stop::Done => break,
-            Stop::Full => {}
-            Stop::Listens => {
-                let sent = card.send_bytes(&mut room[..size]).expect("sent");
-                assert!(sent.count > 0);
-                terminal.receive_bytes(&room[..sent.count]).expect("taken");
-            }
-        }
-    }
-    terminal.answer().expect("an answer")
-}
-
 #[test]
 fn each_way_has_the_answers_of_the_book() {
-    let ways: [Carries; 4] = [over_tpdus, over_commands, by_characters, by_buffers];
-    for way in ways {
+    for way in [over_tpdus as Carries, over_commands] {
         plays(false, |card| {
             Joined(Terminal::new().expect("memory"), card, way)
         });
@@ -284,20 +241,15 @@ impl Ends for ByBlocks {
     }
 }
 
-/// A terminal's end and its line, by an answer to reset.
-fn at_t_1<L: Line>(atr: &[u8], line: L) -> T1Line<L> {
-    let atr = Atr::read(atr).expect("an answer to reset");
-    let (edc, ifsc) = (atr.edc.expect("an EDC"), atr.ifsc.expect("a size"));
-    let end = T1::new(edc, ifsc, T1Limits::default()).expect("memory");
-    let waits = atr.waits(3_571_200).and_then(|it| it.t1);
-    T1Line::new(end, waits.expect("the times of T=1"), line)
-}
-
 #[test]
 fn a_line_at_t_1_has_the_answers_of_the_book() {
+    let atr = Atr::read(b"\x3B\x80\x01\x81").expect("an answer to reset");
+    let (edc, ifsc) = (atr.edc.expect("an EDC"), atr.ifsc.expect("a size"));
+    let waits = atr.waits(3_571_200).and_then(|it| it.t1).expect("of T=1");
     plays(false, |card| {
         let wire = Wire(CardT1::new(card).expect("a card"), VecDeque::new());
-        let line = at_t_1(b"\x3B\x80\x01\x81", wire);
+        let end = T1::new(edc, ifsc, T1Limits::default()).expect("memory");
+        let line = T1Line::new(end, waits, wire);
         ByBlocks(Terminal::new().expect("memory"), line)
     });
 }
@@ -348,119 +300,4 @@ fn turns(heard: &[(End, u8)]) -> Vec<String> {
     let sign = |from| if from == End::Card { '<' } else { '>' };
     let line = |(from, bytes): (End, Vec<u8>)| format!("{} {}", sign(from), digits(&bytes));
     lines.into_iter().map(line).collect()
-}
-
-/// What a card alone prints for a line.
-fn of_card(card: &mut Card, line: &[&str]) -> Vec<String> {
-    match line {
-        ["reset"] => {
-            card.reset().expect("a reset");
-            vec!["reset".to_owned()]
-        }
-        ["table"] => table(card),
-        [">", given] => match card.receive_bytes(&bytes(given)) {
-            Ok(()) => vec![],
-            Err(fault) => vec![format!("! {}", fault.error)],
-        },
-        ["<", room @ ..] => {
-            let most = room
-                .first()
-                .map_or(9_000, |it| it.parse().expect("a number"));
-            let mut room = vec![0; most];
-            let sent = card.send_bytes(&mut room).expect("sent");
-            let line = format!("< {}", digits(&room[..sent.count]));
-            vec![line.trim_end().to_owned()]
-        }
-        other => panic!("{other:?}"),
-    }
-}
-
-/// All but those with an answer to reset, which a card here has not.
-#[test]
-fn a_card_answers_the_characters_of_the_book() {
-    let cards = book(".card").into_iter().map(|it| (text(&it), it));
-    let cards: Vec<_> = cards
-        .filter(|(script, _)| !script.contains("\natr "))
-        .collect();
-    assert!(cards.len() > 10);
-    for (script, path) in cards {
-        let output = text(&path.with_extension("out"));
-        let is_plan = |it: &Vec<&str>| it[0] == "plan";
-        let (plans, lines): (Vec<_>, Vec<_>) = words(&script).into_iter().partition(is_plan);
-        let (mut card, lines) = built(&lines);
-        for (steps, cut) in plans.iter().map(|it| plan(it)) {
-            card.plan(steps, cut).expect("a plan");
-        }
-        let printed: Vec<_> = lines.iter().flat_map(|it| of_card(&mut card, it)).collect();
-        assert_eq!(
-            printed,
-            output.lines().collect::<Vec<_>>(),
-            "{}",
-            path.display()
-        );
-    }
-}
-
-/// A card that plays a dialogue at T=1: it expects each block of the terminal, and sends its own.
-struct Talk<'a>(VecDeque<Vec<&'a str>>);
-
-impl Talk<'_> {
-    /// Takes the next line, if it has this sign.
-    fn next(&mut self, sign: &str) -> Option<Vec<u8>> {
-        self.0.front().filter(|it| it[0] == sign)?;
-        let line = self.0.pop_front()?;
-        Some(if sign == "~" { vec![] } else { bytes(line[1]) })
-    }
-}
-
-impl Line for Talk<'_> {
-    type Error = Box<dyn std::error::Error>;
-
-    fn send(&mut self, block: &[u8]) -> Result<(), Self::Error> {
-        assert_eq!(self.next(">"), Some(block.to_vec()));
-        Ok(())
-    }
-
-    fn receive(&mut self, room: &mut [u8], wait: Duration) -> Result<usize, Self::Error> {
-        // BGT is below 3 ms, and BWT above 100 ms: before a block nothing comes
-        if wait < Duration::from_millis(3) {
-            return Ok(0);
-        }
-        let is_late = self.next("~").is_some();
-        let block = self.next("<").unwrap_or_default();
-        // the card has asked for twice BWT
-        assert!(!is_late || block.is_empty() || wait > Duration::from_millis(200));
-        room[..block.len()].copy_from_slice(&block);
-        Ok(block.len())
-    }
-}
-
-#[test]
-fn a_terminal_at_t_1_talks_as_in_the_book() {
-    let talks = book(".talk");
-    assert!(talks.len() > 7);
-    for path in talks {
-        let script = text(&path);
-        let (mut lines, mut operations, mut results) = (VecDeque::new(), vec![], vec![]);
-        for line in words(&script) {
-            match line[0] {
-                ">" | "<" | "~" => lines.push_back(line),
-                "=" | "!" => results.push(line.join(" ")),
-                _ => operations.push(line),
-            }
-        }
-        let mut talk = Talk(lines);
-        let atr = talk.next("<").expect("an answer to reset");
-        let mut line = at_t_1(&atr, talk);
-        let mut terminal = Terminal::new().expect("memory");
-        let mut printed = Vec::new();
-        for (at, words) in operations.iter().enumerate() {
-            printed.push(match operation(words, |it| terminal.run(&mut line, it)) {
-                Ok(answer) => shown(&answer),
-                Err(fault) => format!("! operation {}: {fault}", at + 1),
-            });
-        }
-        assert_eq!(printed, results, "{}", path.display());
-        assert!(line.line.0.is_empty());
-    }
 }

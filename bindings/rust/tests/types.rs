@@ -26,29 +26,17 @@ fn session() -> Session {
 }
 
 #[test]
-fn statuses_have_two_bytes() {
-    let status = Status(0x6C1A);
-    assert_eq!((status.sw1(), status.sw2()), (0x6C, 0x1A));
-    assert_eq!(status, 0x6C1A);
-    assert_ne!(status, 0x6C19);
-    assert_ne!(status, 0x6C1B);
-    assert_eq!(status.to_string(), "6C1A");
-    assert_eq!(Status(0x0007).to_string(), "0007");
-    assert_eq!(format!("{status:?}"), "Status(6C1A)");
-}
-
-#[test]
 fn statuses_are_numbers() {
     let status: Status = 0x6C1A.into();
-    assert_eq!(status, Status(0x6C1A));
-    assert!(status == 0x6C1A && Status(0x9000) == 0x9000);
+    assert_eq!((status.sw1(), status.sw2()), (0x6C, 0x1A));
+    assert!(status == Status(0x6C1A) && status == 0x6C1A);
+    assert!(status != 0x6C19 && status != 0x6C1B);
     let mut sorted = [Status(0x9000), Status(0x6100), Status(0x6A82)];
     sorted.sort();
     assert_eq!(sorted, [0x6100, 0x6A82, 0x9000]);
-    assert_eq!(
-        format!("{status:X} {0:04X} {0:#X}", Status(0x62)),
-        "6C1A 0062 0x62"
-    );
+    let low = Status(0x0007);
+    let shown = format!("{status} {low} {status:?} {status:X} {low:04X} {low:#X}");
+    assert_eq!(shown, "6C1A 0007 Status(6C1A) 6C1A 0007 0x7");
 }
 
 /// A status as an error, in a chain of `?`.
@@ -77,42 +65,29 @@ fn refusals_are_errors() {
     assert_eq!(part.ok().map_err(|it| it.status.0), Err(0x6104));
 }
 
-#[test]
-fn only_9000_is_ok() {
-    let ok: Vec<u16> = (0..=0xFFFF).filter(|it| Status(*it).is_ok()).collect();
-    assert_eq!(ok, [0x9000]);
-}
+/// CLA and INS of a command, a status after it, and what that means.
+const WORDS: &str = "
+0000 60FF no known meaning
+0000 6100 at least 256 bytes of the response wait
+0000 61FF 255 bytes of the response wait
+0000 6983 the method of authentication is blocked
+0000 63CF a warning: a counter is at 15
+0020 63C1 a warning: 1 try is left
+7F20 63C2 a warning: 2 tries are left
+8020 63C2 a warning: a counter is at 2
+A020 63C2 a warning: a counter is at 2
+A0A4 9F16 22 bytes of the response wait
+A1A4 9F16 no known meaning
+0000 6FFF an error of checking
+0000 FFFF no known meaning
+";
 
-/// The statuses of this library's card, as `Answer` lists them, and others.
 #[test]
 fn statuses_have_words() {
-    for (cla, ins, word, words) in [
-        (0x00, 0x00, 0x60FF, "no known meaning"),
-        (
-            0x00,
-            0x00,
-            0x6100,
-            "at least 256 bytes of the response wait",
-        ),
-        (0x00, 0x00, 0x61FF, "255 bytes of the response wait"),
-        (
-            0x00,
-            0x00,
-            0x6983,
-            "the method of authentication is blocked",
-        ),
-        (0x00, 0x00, 0x63CF, "a warning: a counter is at 15"),
-        (0x00, 0x20, 0x63C1, "a warning: 1 try is left"),
-        (0x7F, 0x20, 0x63C2, "a warning: 2 tries are left"),
-        (0x80, 0x20, 0x63C2, "a warning: a counter is at 2"),
-        (0xA0, 0x20, 0x63C2, "a warning: a counter is at 2"),
-        (0xA0, 0xA4, 0x9F16, "22 bytes of the response wait"),
-        (0xA1, 0xA4, 0x9F16, "no known meaning"),
-        (0x00, 0x00, 0x6FFF, "an error of checking"),
-        (0x00, 0x00, 0xFFFF, "no known meaning"),
-    ] {
-        let got = Status(word).words(cla, ins);
-        assert_eq!(got, words, "{cla:02X} {ins:02X} {word:04X}");
+    let number = |digits| u16::from_str_radix(digits, 16).expect("digits");
+    for line in WORDS.trim().lines() {
+        let [cla, ins] = number(&line[..4]).to_be_bytes();
+        assert_eq!(Status(number(&line[5..9])).words(cla, ins), line[10..]);
     }
     for ins in 0..=0xFF {
         let counts = [0x20, 0x21, 0x24, 0x25, 0x26, 0x28, 0x2C, 0x2D, 0x82].contains(&ins);
@@ -289,16 +264,9 @@ fn values_are_sorted_into_sets() {
     assert_eq!(counted([Status(0x9000), Status(0x9000), Status(0x6A82)]), 2);
     assert_eq!(counted([Turn::Sends(1), Turn::Listens, Turn::Sends(1)]), 2);
     assert_eq!(counted([Stop::Full, Stop::Done, Stop::Full]), 2);
-    assert_eq!(
-        counted([
-            Pps::default(),
-            Pps {
-                t: 1,
-                ..Pps::default()
-            }
-        ]),
-        2
-    );
+    let mut pps = [Pps::default(); 2];
+    pps[1].t = 1;
+    assert_eq!(counted(pps), 2);
     assert_eq!(counted([Operation::Get(0x50), Operation::Get(0x50)]), 1);
     let atr = |bytes| Atr::read(bytes).expect("an answer to reset");
     assert_eq!(counted([atr(b"\x3B\x00"), atr(b"\x3F\x00")]), 2);
@@ -345,18 +313,13 @@ fn handles_may_go_to_another_thread_and_other_values_be_shared() {
     let told: Vec<&str> = told.split('`').skip(1).step_by(2).collect();
     assert_eq!(told, names);
     fn is_shared<T: Send + Sync>() {}
-    is_shared::<Answer>();
-    is_shared::<Entry>();
-    is_shared::<Command<'_>>();
-    is_shared::<Response>();
-    is_shared::<Pdu>();
-    is_shared::<Level>();
-    is_shared::<Atr<'_>>();
-    is_shared::<Objects<'_>>();
-    is_shared::<Operation<'_>>();
-    is_shared::<RunError<Error>>();
-    is_shared::<Refused>();
-    is_shared::<galliumtoad::Waits>();
-    is_shared::<galliumtoad::WholeCommands<u8>>();
-    is_shared::<galliumtoad::By<u8>>();
+    is_shared::<(Answer, Entry, Command<'_>, Response, Pdu, Level, Atr<'_>)>();
+    is_shared::<(
+        Objects<'_>,
+        Operation<'_>,
+        RunError<Error>,
+        Refused,
+        galliumtoad::Waits,
+    )>();
+    is_shared::<(galliumtoad::WholeCommands<u8>, galliumtoad::By<u8>)>();
 }

@@ -211,14 +211,12 @@ fn what_is_left_is_seen() {
     assert_eq!(left(|| drop(SECRET.to_vec())), (1, false));
     let spread: Vec<u8> = SECRET.iter().flat_map(|it| [*it, 1]).collect();
     assert_eq!(left(|| drop(spread.clone())), (1, false));
-    assert_eq!(
-        left(|| {
-            let mut room = [0; 40];
-            room[5..21].copy_from_slice(&SECRET);
-            seen(&room);
-        }),
-        (0, true)
-    );
+    let on_stack = || {
+        let mut room = [0; 40];
+        room[5..21].copy_from_slice(&SECRET);
+        seen(&room);
+    };
+    assert_eq!(left(on_stack), (0, true));
     let before = TAKEN.with(Cell::get);
     let held = SECRET.to_vec();
     assert_eq!(TAKEN.with(Cell::get), before + SECRET.len() as isize);
@@ -258,26 +256,6 @@ fn a_card_leaves_nothing() {
     });
 }
 
-#[test]
-fn a_card_leaves_nothing_by_characters() {
-    let _one = one();
-    leaves_nothing(|| {
-        let mut card = card();
-        card.receive_bytes(&SELECT[..5]).expect("a header");
-        assert_eq!(card.turn(), Ok(Turn::Sends(0xA4)));
-        card.receive_bytes(&SELECT[5..]).expect("its data");
-        let mut room = vec![0; 300];
-        assert_eq!(card.send_bytes(&mut room).expect("a status").count, 2);
-        card.receive_bytes(&PUT[..5]).expect("a header");
-        assert_eq!(card.turn(), Ok(Turn::Sends(0xDA)));
-        card.receive_bytes(&PUT[5..]).expect("its data");
-        assert_eq!(card.send_bytes(&mut room).expect("a status").count, 2);
-        card.receive_bytes(&GET).expect("a header");
-        assert_eq!(card.send_bytes(&mut room).expect("data").count, 22);
-        own(room, true);
-    });
-}
-
 /// Takes the secret from a command, and answers with it, or panics.
 struct Echo(bool);
 
@@ -288,11 +266,8 @@ impl Application for Echo {
 
     fn carry_out(&mut self, command: Command<'_>, response: &mut Response) -> Status {
         assert_eq!(has_secret(command.data), command.le == 0);
-        response.extend(if command.le > 0 {
-            &SECRET
-        } else {
-            command.data
-        });
+        let is_read = command.le > 0;
+        response.extend(if is_read { &SECRET } else { command.data });
         if self.0 {
             std::panic::resume_unwind(Box::new(()));
         }
@@ -303,12 +278,8 @@ impl Application for Echo {
 /// Passes the secret to a card, and fetches it.
 fn talk(card: &mut OwnCard<Echo>) {
     let mut room = vec![0; 300];
-    for sent in [
-        &PUT[..5],
-        &PUT[5..],
-        b"\x00\xC0\x00\x00\x10",
-        b"\x00\xCA\x5F\x20\x10",
-    ] {
+    let [fetch, get] = [b"\x00\xC0\x00\x00\x10", b"\x00\xCA\x5F\x20\x10"];
+    for sent in [&PUT[..5], &PUT[5..], fetch, get] {
         card.receive_bytes(sent).expect("listens");
         assert!(card.send_bytes(&mut room).expect("a card").count > 0);
     }
@@ -353,14 +324,6 @@ fn an_exchange_leaves_nothing() {
         own(room, true);
     });
     leaves_nothing(|| {
-        let mut exchange = start(&PUT);
-        while let Ok(Turn::Sends(_)) = exchange.turn() {}
-        exchange.take(0xDA).expect("a procedure byte");
-        let mut room = vec![0; 30];
-        assert_eq!(exchange.send_bytes(&mut room).expect("data").count, 16);
-        own(room, true);
-    });
-    leaves_nothing(|| {
         let mut exchange = start(&GET);
         exchange.answered(&FOUND_OBJECT).expect("an answer");
         own(exchange.answer().expect("an answer").data, true);
@@ -368,12 +331,6 @@ fn an_exchange_leaves_nothing() {
         assert_eq!(exchange.answer_into(&mut room).expect("one").count, 19);
         own(room, true);
         assert!(exchange.answer_into(&mut [0; 18]).is_err());
-    });
-    leaves_nothing(|| {
-        let mut exchange = start(&GET);
-        while let Ok(Turn::Sends(_)) = exchange.turn() {}
-        exchange.take(0xCA).expect("a procedure byte");
-        exchange.receive_bytes(&FOUND_OBJECT).expect("an answer");
     });
 }
 
@@ -391,9 +348,8 @@ fn what_a_terminal_keeps_is_wiped() {
             drop(terminal.tpdu().expect("memory").expect("due"));
             terminal.answered(&[0x90, 0x00]).expect("an answer");
         }
-        terminal
-            .begin(Operation::Put(0x50, &secret))
-            .expect("begun");
+        let put = Operation::Put(0x50, &secret);
+        terminal.begin(put).expect("begun");
         terminal.reset().expect("a reset");
     });
 }
@@ -454,10 +410,10 @@ fn a_session_leaves_nothing() {
         assert!(session.put(0x5F20, &SECRET).expect("an answer").is_ok());
         let mut heard = session.heard().expect("memory");
         assert_eq!(heard.len(), 8 + 16);
-        heard.iter_mut().for_each(|it| it.1 = 0);
-        heard
-            .iter()
-            .for_each(|it| seen(std::slice::from_ref(&it.1)));
+        for (_, byte) in &mut heard {
+            *byte = 0;
+            seen(std::slice::from_ref(byte));
+        }
         drop(heard);
         own(session.get(0x5F20).expect("an answer").data, true);
         own(session.answer().expect("the same").data, true);
@@ -534,10 +490,8 @@ fn an_answer_without_memory_stays() {
     let mut card = card();
     let mut reader = |tpdu: &[u8], answer: &mut [u8]| card.tpdu_into(tpdu, answer);
     let mut terminal = Terminal::new().expect("memory");
-    for operation in [
-        Operation::Select(&AID),
-        Operation::Put(0x5F20, &object[5..]),
-    ] {
+    let put = Operation::Put(0x5F20, &object[5..]);
+    for operation in [Operation::Select(&AID), put] {
         let answer = terminal.run(&mut reader, operation);
         assert_eq!(answer.expect("an answer").status, 0x9000);
     }
@@ -549,15 +503,6 @@ fn an_answer_without_memory_stays() {
     // the smallest block that is refused is one of 305 bytes
     let found = without(306, || terminal.run(&mut reader, get));
     assert_eq!(found.expect("an answer").data, object);
-    let mut exchange = Exchange::start(&[0x00, 0xCA, 0x5F, 0x20, 0x00]).expect("memory");
-    exchange
-        .answered(&[&object[..256], b"\x61\x31"].concat())
-        .expect("taken");
-    exchange
-        .answered(&[&object[256..], b"\x90\x00"].concat())
-        .expect("taken");
-    assert_eq!(without(305, || exchange.answer()), Err(Error::Buffer));
-    assert_eq!(exchange.answer().expect("the answer").data, object);
     let mut session = Session::start(card).expect("a session");
     session.listen().expect("somebody listens");
     assert_eq!(session.select(&AID).expect("an answer").status, 0x9000);
@@ -573,13 +518,11 @@ fn an_answer_without_memory_stays() {
     // memory ran out while that one was noted
     assert_eq!(session.heard(), Err(Error::Memory));
     assert_eq!(session.get(0x5F20).expect("an answer").data, object);
-    // GET DATA, 256 bytes and 6131, GET RESPONSE, 49 bytes and 9000: two bytes of memory for each
+    // GET DATA, 256 bytes and 6131, GET RESPONSE, 49 bytes and 9000, with two procedure bytes: each
+    // takes two bytes of memory
     assert_eq!(without(642, || session.heard()), Err(Error::Buffer));
     assert_eq!(with_blocks(1, || session.heard()), Err(Error::Buffer));
-    assert_eq!(
-        session.heard().expect("memory").len(),
-        5 + 1 + 256 + 2 + 5 + 1 + 49 + 2
-    );
+    assert_eq!(session.heard().expect("memory").len(), 264 + 57);
 }
 
 /// What takes memory before anything is sent or done changes nothing without it.

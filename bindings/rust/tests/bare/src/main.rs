@@ -61,6 +61,10 @@ fn full(_: Layout) -> ! {
     end(102)
 }
 
+// the `alloc` of a compiler with `std` names it, for panics that unwind
+#[no_mangle]
+extern "C" fn rust_eh_personality() {}
+
 #[no_mangle]
 extern "C" fn begin() -> ! {
     let aid = [0xA0, 0x00, 0x00, 0x00, 0x03, 0x10, 0x10];

@@ -1,5 +1,5 @@
 """Tests cards of applications of one's own in `galliumtoad.simulate`, in Python and in programs.
-The examples give the same answers at a pseudo terminal and as whole commands."""
+The examples give the same answers at T=0 and at T=1."""
 
 import json
 import os
@@ -13,10 +13,9 @@ from pathlib import Path
 import pytest
 from galliumtoad import T1, Exchange, OwnCard, cards, simulate
 from galliumtoad.cards import Program, application
-from galliumtoad.faults import Faults, Mistake, block, read
+from galliumtoad.faults import Mistake, block
 from galliumtoad.simulate import Simulator, main
 from room import folder_of_programs
-from test_simulate import Vpcd
 from waiting import AtPty, wait_until
 
 SOURCE = Path(simulate.__file__).parent.parent
@@ -59,7 +58,6 @@ UICC = """
 """
 T1_ATR = "3B800181"
 CARDS = {"counter:Counter": COUNTER, "payment:Payment": PAYMENT, "uicc:Uicc": UICC}
-ALL = pytest.mark.parametrize("name", CARDS)
 
 
 def dialogue(name):
@@ -98,23 +96,12 @@ class Card(AtPty):
 
 
 @pytest.mark.parametrize("atr", ["3B00", T1_ATR])
-@ALL
+@pytest.mark.parametrize("name", CARDS)
 def test_an_example_at_a_line(name, atr):
     card = Card("--application", name, "--atr", atr)
     commands, answers = dialogue(name)
     assert [card.answer(it) for it in commands] == answers
     card.end()
-
-
-@ALL
-def test_an_example_as_whole_commands(name):
-    commands, answers = dialogue(name)
-    vpcd = Vpcd(of=Simulator(OwnCard(application(name))))
-    assert [vpcd.ask(bytes.fromhex(it)).hex().upper() for it in commands] == answers
-    vpcd.say(b"\x02")  # a reset
-    assert vpcd.ask(bytes.fromhex(commands[0])).hex().upper() == {"counter:Counter": "039000"}.get(
-        name, answers[0])
-    vpcd.end()
 
 
 def test_a_card_in_another_language():
@@ -123,9 +110,6 @@ def test_a_card_in_another_language():
     card = Card("--program", "sh counter.sh")
     assert [card.answer(it) for it in commands] == answers
     card.end()
-    vpcd = Vpcd(of=Simulator(OwnCard(Program(shlex.join(["sh", f"{EXAMPLES}/counter.sh"])))))
-    assert [vpcd.ask(bytes.fromhex(it)).hex().upper() for it in commands] == answers
-    vpcd.end()
 
 
 LOGS = """
@@ -277,13 +261,6 @@ def test_the_dialogue_at_t1_has_a_line_for_each_block():
               block(0, 0, bytes.fromhex("8010000000")), block(0, 0, bytes.fromhex("019000"))]
     assert card.end()[0].splitlines()[:6] == ["reset", f"< {T1_ATR}", *(
         f"{sign} {it.hex().upper()}" for sign, it in zip("><><", blocks))]
-
-
-def test_faults_strike_at_such_cards():
-    faults = Faults(read("command 1, status 6F00\ncommand 2, twice\ncommand 3, forget"))
-    with Simulator(OwnCard(application("counter:Counter")), faults=faults) as reader:
-        answers = [reader(bytes.fromhex("8010000000")).hex() for _ in range(4)]
-    assert answers == ["016f00", "039000", "9000", "049000"]
 
 
 RESULTS = ["None", "0x9000", "(0x9000,)", "(0x9000, 'text')", "('9000', b'')", "(0x6105, b'')",

@@ -12,7 +12,7 @@ import time
 
 import pytest
 from galliumtoad import Card, Select, Terminal
-from galliumtoad.batch.script import Script
+from galliumtoad.batch.script import Recorder, Script, carry_out, check_of
 from room import AID, FULL, HERE, SCRIPT, STANDIN, Room, ended, listed, steps_of, told
 
 sys.path.append(str(HERE.parents[2] / "checks/program"))
@@ -47,65 +47,58 @@ def test_each_row_goes_to_one_card(tmp_path):
     assert "PERSON" not in text + out and f"{room.names[1]}-1".encode().hex().upper() in text
 
 
-def test_a_row_is_on_disk_before_its_cards_first_byte(tmp_path, monkeypatch):
-    room = Room(tmp_path, 1)
-    from galliumtoad.batch import journal
-
+@pytest.fixture
+def connection(tmp_path, monkeypatch):
+    """The class of connections to cards."""
     monkeypatch.setenv("STANDIN", str(tmp_path))
     monkeypatch.syspath_prepend(str(STANDIN))
-    from smartcard.pcsc.PCSCCardConnection import PCSCCardConnection as Connection
+    from smartcard.pcsc.PCSCCardConnection import PCSCCardConnection
 
-    steps, sync, transmit = [], os.fsync, Connection.transmit
-    monkeypatch.setattr(
-        journal.os, "fsync", lambda file: (steps.append("on disk"), sync(file))[1]
-    )
-    monkeypatch.setattr(
-        Connection, "transmit", lambda it, sent: (steps.append("card"), transmit(it, sent))[1]
-    )
+    return PCSCCardConnection
+
+
+def noted(monkeypatch, of, name, note):
+    """Has a function call `note` with its arguments first."""
+    calls = getattr(of, name)
+    monkeypatch.setattr(of, name, lambda *words: (note(*words), calls(*words))[1])
+
+
+def test_a_row_is_on_disk_before_its_cards_first_byte(tmp_path, monkeypatch, connection):
+    room, steps = Room(tmp_path, 1), []
+    noted(monkeypatch, os, "fsync", lambda file: steps.append("on disk"))
+    noted(monkeypatch, connection, "transmit", lambda it, sent: steps.append("card"))
     assert room.run()[0] == 0
     # the heading, the folder and the row
     assert steps[:3] == ["on disk"] * 3 and set(steps[3:-1]) == {"card"}
     assert steps[-1] == "on disk"
 
 
-def test_an_identifier_is_on_disk_before_a_card_changes(tmp_path, monkeypatch):
-    room = Room(tmp_path, 1)
-    monkeypatch.setenv("STANDIN", str(tmp_path))
-    monkeypatch.syspath_prepend(str(STANDIN))
-    from smartcard.pcsc.PCSCCardConnection import PCSCCardConnection as Connection
+def test_an_identifier_is_on_disk_before_a_card_changes(tmp_path, monkeypatch, connection):
+    room, lines = Room(tmp_path, 1), []
 
-    lines, transmit = [], Connection.transmit
-
-    def noted(it, sent):
+    def note(_, sent):
         if sent[1] == 0xDA and not lines:
             lines.extend(room.events())
-        return transmit(it, sent)
 
-    monkeypatch.setattr(Connection, "transmit", noted)
+    noted(monkeypatch, connection, "transmit", note)
     assert room.run("--id=9F7F")[0] == 0
     assert lines == ["begin 1", "card 1"]
 
 
-def test_no_other_program_has_the_card_and_it_is_reset_at_the_end(tmp_path, monkeypatch):
+def test_no_other_program_has_the_card_and_it_is_reset(tmp_path, monkeypatch, connection):
     room, asked = Room(tmp_path, 1), []
-    monkeypatch.setenv("STANDIN", str(tmp_path))
-    monkeypatch.syspath_prepend(str(STANDIN))
     from smartcard import scard
-    from smartcard.pcsc.PCSCCardConnection import PCSCCardConnection as Connection
 
-    connect = Connection.connect
-    monkeypatch.setattr(Connection, "connect", lambda it, *how: (asked.append(how), connect(it))[1])
+    noted(monkeypatch, connection, "connect", lambda it, *how: asked.append(how))
     assert room.run()[0] == 0
     assert asked == [(None, scard.SCARD_SHARE_EXCLUSIVE, scard.SCARD_RESET_CARD)]
 
 
-def outcome_of(script, reader, row=None):
+def outcome_of(script, reader):
     """How a row ends, and why, if a reader carries out this script."""
-    from galliumtoad.batch.script import Recorder, carry_out
-
-    row = row or {"name": "PERSON 1", "code": "00000001"}
+    row = {"name": "PERSON 1", "code": "00000001"}
     made = Script("script", script, [*row])
-    return tuple(carry_out(steps_of(made, row), Recorder(reader)))
+    return carry_out(steps_of(made, row), Recorder(reader))
 
 
 @pytest.mark.parametrize(("tag", "outcome"), [("5F20", "done"), ("50", "failed")])
@@ -174,8 +167,6 @@ def test_a_row_in_progress_is_not_to_be_decided(tmp_path):
 
 def journal_check(room, row):
     """The sum of a row in a journal that `create` has made."""
-    from galliumtoad.batch.script import check_of
-
     script = Script("script", (room.path / "script").read_text(), ["name", "code"])
     made = steps_of(script, {"name": f"PERSON {row}", "code": f"{row:08X}"})
     return check_of(made, "00" * 16)
@@ -495,9 +486,9 @@ def test_a_row_is_decided_under_one_lock(tmp_path, monkeypatch):
     journal.reserve()
     journal.note(1, "begin", "00 Slot0")
     journal.note(1, "unsure", "")
-    steps, lockf, pwrite = [], fcntl.lockf, os.pwrite
-    monkeypatch.setattr(fcntl, "lockf", lambda *it: (steps.append(it[1:]), lockf(*it))[1])
-    monkeypatch.setattr(os, "pwrite", lambda *it: (steps.append("written"), pwrite(*it))[1])
+    steps = []
+    noted(monkeypatch, fcntl, "lockf", lambda *it: steps.append(it[1:]))
+    noted(monkeypatch, os, "pwrite", lambda *it: steps.append("written"))
     journal.decide(1, "again")
     mine = [it for it in steps if it == "written" or it[2] == 0]
     assert mine == [(fcntl.LOCK_EX, 1, 0), "written", (fcntl.LOCK_UN, 1, 0)]

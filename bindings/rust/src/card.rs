@@ -4,7 +4,6 @@ use crate::error::{done, told, Error};
 use crate::exchange::{turned, Turn};
 use crate::own_card::{Application, Own};
 use crate::raw::{self, Handle};
-use crate::tables::{Tables, OF_CARD};
 use alloc::vec::Vec;
 use core::fmt;
 
@@ -236,31 +235,5 @@ impl<A: Application> Card<A> {
         done(unsafe { raw::galliumtoad_card_reset(self.0.at()) })?;
         self.1.was_reset();
         Ok(())
-    }
-}
-
-impl Card {
-    /// Returns the identifier of the selected application, or `None` if none is selected.
-    #[must_use]
-    pub fn selected(&self) -> Option<Vec<u8>> {
-        Tables(&self.0, &OF_CARD).selected()
-    }
-
-    /// Returns the identifiers of the applications, in the order of building.
-    pub fn apps(&self) -> impl Iterator<Item = Vec<u8>> + '_ {
-        Tables(&self.0, &OF_CARD).apps()
-    }
-
-    /// Returns the place of the application with this identifier, from 0, for
-    /// [`entries`](Card::entries). `None` if the card has no such application.
-    #[must_use]
-    pub fn place_of(&self, aid: &[u8]) -> Option<usize> {
-        self.apps().position(|it| it == aid)
-    }
-
-    /// Returns the data objects of the application at this place, from 0, in order of first
-    /// storing. It yields nothing if `app` is past the last.
-    pub fn entries(&self, app: usize) -> impl Iterator<Item = Entry> + '_ {
-        Tables(&self.0, &OF_CARD).entries(app)
     }
 }

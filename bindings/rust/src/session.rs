@@ -1,12 +1,11 @@
 //! A terminal and a card, joined by a line.
 
-use crate::card::{Card, Entry};
+use crate::card::Card;
 use crate::error::{done, told, Error};
 use crate::exchange::{self, Answer, Copied};
 use crate::own_card::Own;
 use crate::raw::{self, Handle};
 use crate::status::Status;
-use crate::tables::{Tables, OF_SESSION};
 use crate::terminal::{calls, Operation};
 use crate::wiped::{room_for, wipe_from};
 use alloc::vec::Vec;
@@ -45,7 +44,7 @@ pub enum End {
 /// # Ok::<(), galliumtoad::Error>(())
 /// ```
 #[derive(Debug)]
-pub struct Session(Handle);
+pub struct Session(pub(crate) Handle);
 
 impl Session {
     /// Takes a card, and resets it: nothing is selected. This takes no memory. Data objects stay,
@@ -247,28 +246,6 @@ impl Session {
     pub fn reset(&mut self) -> Result<(), Error> {
         // SAFETY: a session's handle.
         done(unsafe { raw::galliumtoad_session_reset(self.0.at()) })
-    }
-
-    /// Returns the identifier of the selected application, as [`Card::selected`].
-    #[must_use]
-    pub fn selected(&self) -> Option<Vec<u8>> {
-        Tables(&self.0, &OF_SESSION).selected()
-    }
-
-    /// Returns the identifiers of the card's applications, as [`Card::apps`].
-    pub fn apps(&self) -> impl Iterator<Item = Vec<u8>> + '_ {
-        Tables(&self.0, &OF_SESSION).apps()
-    }
-
-    /// Returns the place of an application of the card, as [`Card::place_of`].
-    #[must_use]
-    pub fn place_of(&self, aid: &[u8]) -> Option<usize> {
-        self.apps().position(|it| it == aid)
-    }
-
-    /// Returns the data objects of an application of the card, as [`Card::entries`].
-    pub fn entries(&self, app: usize) -> impl Iterator<Item = Entry> + '_ {
-        Tables(&self.0, &OF_SESSION).entries(app)
     }
 
     /// Returns the card, reset: a next session selects again. Data objects stay. Plans that are

@@ -1,16 +1,51 @@
 //! What a card holds, alone or in a session.
 
-use crate::card::{Entry, AID_LIMIT};
+use crate::card::{Card, Entry, AID_LIMIT};
 use crate::raw::{self, copied, Handle, Held};
+use crate::session::Session;
 use alloc::vec;
 use alloc::vec::Vec;
 
+/// Adds the tables of its card to a type.
+macro_rules! tables {
+    ($of:ident, $calls:ident) => {
+        impl $of {
+            /// Returns the identifier of the selected application, or `None` if none is selected.
+            #[must_use]
+            pub fn selected(&self) -> Option<Vec<u8>> {
+                Tables(&self.0, &$calls).selected()
+            }
+
+            /// Returns the identifiers of the card's applications, in the order of building.
+            pub fn apps(&self) -> impl Iterator<Item = Vec<u8>> + '_ {
+                Tables(&self.0, &$calls).apps()
+            }
+
+            /// Returns the place of the application with this identifier, from 0, for
+            /// [`entries`](Self::entries). `None` if the card has no such application.
+            #[must_use]
+            pub fn place_of(&self, aid: &[u8]) -> Option<usize> {
+                self.apps().position(|it| it == aid)
+            }
+
+            /// Returns the data objects of the application at this place, from 0, in order of first
+            /// storing. It yields nothing if `app` is past the last.
+            pub fn entries(&self, app: usize) -> impl Iterator<Item = Entry> + '_ {
+                Tables(&self.0, &$calls).entries(app)
+            }
+        }
+    };
+}
+
+tables!(Card, OF_CARD);
+tables!(Session, OF_SESSION);
+
 /// The tables of the card that a handle has, and the functions for that kind of handle.
 #[derive(Clone, Copy)]
-pub(crate) struct Tables<'a>(pub(crate) &'a Handle, pub(crate) &'static Calls);
+struct Tables<'a>(&'a Handle, &'static Calls);
 
 /// The three functions that read them.
-pub(crate) struct Calls {
+struct Calls {
     selected: unsafe extern "C" fn(*mut Held, *mut u8, usize, *mut usize) -> i32,
     app_at: unsafe extern "C" fn(*mut Held, usize, *mut u8, usize, *mut usize) -> i32,
     entry_at: unsafe extern "C" fn(
@@ -25,26 +60,26 @@ pub(crate) struct Calls {
     ) -> i32,
 }
 
-pub(crate) static OF_CARD: Calls = Calls {
+static OF_CARD: Calls = Calls {
     selected: raw::galliumtoad_card_selected,
     app_at: raw::galliumtoad_card_app_at,
     entry_at: raw::galliumtoad_card_entry_at,
 };
 
-pub(crate) static OF_SESSION: Calls = Calls {
+static OF_SESSION: Calls = Calls {
     selected: raw::galliumtoad_session_selected,
     app_at: raw::galliumtoad_session_app_at,
     entry_at: raw::galliumtoad_session_entry_at,
 };
 
 impl<'a> Tables<'a> {
-    pub(crate) fn selected(self) -> Option<Vec<u8>> {
+    fn selected(self) -> Option<Vec<u8>> {
         // SAFETY: a handle of what the calls are for, which a call by `&` may write to (`Handle`).
         copied::<AID_LIMIT>(|to, room, n| unsafe { (self.1.selected)(self.0.at(), to, room, n) })
             .map(|it| it.to_vec())
     }
 
-    pub(crate) fn apps(self) -> impl Iterator<Item = Vec<u8>> + 'a {
+    fn apps(self) -> impl Iterator<Item = Vec<u8>> + 'a {
         (0..).map_while(move |app| self.app(app))
     }
 
@@ -54,7 +89,7 @@ impl<'a> Tables<'a> {
             .map(|it| it.to_vec())
     }
 
-    pub(crate) fn entries(self, app: usize) -> impl Iterator<Item = Entry> + 'a {
+    fn entries(self, app: usize) -> impl Iterator<Item = Entry> + 'a {
         (0..).map_while(move |entry| self.entry(app, entry))
     }
 

@@ -35,17 +35,12 @@ const TELLS: &str = "GALLIUMTOAD_TELLS_VERSION";
 
 /// Notes a call, and returns the code that the test has set.
 fn note(name: &'static str, handed: Vec<usize>) -> i32 {
-    let next = |writes: &mut Vec<(&str, Outputs)>| {
-        let at = writes
-            .iter()
-            .position(|it| name == format!("galliumtoad_{}", it.0))?;
+    let outputs = WRITES.with(|it| {
+        let (mut writes, name) = (it.borrow_mut(), name.strip_prefix("galliumtoad_"));
+        let at = writes.iter().position(|it| Some(it.0) == name)?;
         Some(writes.remove(at).1)
-    };
-    for (at, bytes) in WRITES
-        .with(|it| next(&mut it.borrow_mut()))
-        .into_iter()
-        .flatten()
-    {
+    });
+    for (at, bytes) in outputs.into_iter().flatten() {
         // SAFETY: `writes` names an argument that points to this number of bytes.
         unsafe { (handed[at] as *mut u8).copy_from(bytes.as_ptr(), bytes.len()) };
     }
@@ -96,11 +91,8 @@ fn hands<T>(run: impl FnOnce() -> T, wanted: &[(&str, &[usize])]) -> T {
     let made = run();
     let calls = CALLS.with(RefCell::take);
     let names: Vec<&str> = calls.iter().map(|(name, _)| *name).collect();
-    let wanted_names: Vec<String> = wanted
-        .iter()
-        .map(|(name, _)| format!("galliumtoad_{name}"))
-        .collect();
-    assert_eq!(names, wanted_names);
+    let full = |it: &(&str, &[usize])| format!("galliumtoad_{}", it.0);
+    assert_eq!(names, wanted.iter().map(full).collect::<Vec<_>>());
     for ((name, handed), (_, wanted)) in calls.iter().zip(wanted) {
         assert_eq!(handed.len(), wanted.len(), "{name}");
         for (got, wanted) in handed.iter().zip(*wanted) {
@@ -145,9 +137,8 @@ static BYTES: [u8; 7] = [0xA0, 0x00, 0x00, 0x00, 0x03, 0x10, 0x10];
 
 fn card() -> Card {
     tell(0);
-    CardBuilder::new()
-        .and_then(CardBuilder::finish)
-        .expect("a card")
+    let builder = CardBuilder::new().expect("a builder");
+    builder.finish().expect("a card")
 }
 
 #[test]
@@ -248,49 +239,62 @@ fn versions_are_looked_at_once() {
         exchange_start_within(_, bytes, 7, 16_384), exchange_free(_));
 }
 
+/// The calls that an exchange and an operation of a terminal share.
+macro_rules! passes {
+    ($it:ident, $end:literal) => {
+        let (bytes, mut room, mut longer) = (at(&BYTES), [0; 260], [0; 261]);
+        let (space, most) = (at(&room), at(&longer));
+        hands(|| $it.turn(), &[(concat!($end, "_next"), &[ANY; 2])]);
+        hands(|| $it.take(0xC3), &[(concat!($end, "_take"), &[ANY, 0xC3])]);
+        hands(|| $it.data_sent(), &[(concat!($end, "_data_sent"), &[ANY])]);
+        let tpdu = concat!($end, "_tpdu");
+        hands(|| $it.tpdu(), &[(tpdu, &[ANY, ANY, 261, ANY, ANY])]);
+        hands(
+            || $it.tpdu_into(&mut room),
+            &[(tpdu, &[ANY, space, 260, ANY, ANY])],
+        );
+        let apdu = &[ANY, most, 261, ANY, ANY];
+        hands(
+            || $it.apdu_into(&mut longer),
+            &[(concat!($end, "_apdu"), apdu)],
+        );
+        let given = &[ANY, bytes, 7];
+        hands(
+            || $it.answered(&BYTES),
+            &[(concat!($end, "_answered"), given)],
+        );
+        hands(
+            || $it.responded(&BYTES),
+            &[(concat!($end, "_responded"), given)],
+        );
+        let answer = concat!($end, "_answer");
+        hands(|| $it.answer(), &[(answer, &[ANY, ANY, ANY, 0, ANY])]);
+        hands(
+            || $it.answer_into(&mut room),
+            &[(answer, &[ANY, ANY, space, 260, ANY])],
+        );
+    };
+}
+
 #[test]
 fn of_an_exchange() {
-    let (bytes, mut room) = (at(&BYTES), [0; 260]);
-    let space = at(&room);
+    let bytes = at(&BYTES);
     let begun = hands!(Exchange::start(&BYTES) => exchange_start_within(_, bytes, 7, 16_384));
     let mut it = begun.expect("started");
-    hands!(it.turn() => exchange_next(_, _));
-    hands!(it.take(0xC3) => exchange_take(_, 0xC3));
-    hands!(it.data_sent() => exchange_data_sent(_));
-    hands!(it.answer() => exchange_answer(_, _, _, 0, _));
-    hands!(it.answer_into(&mut room) => exchange_answer(_, _, space, 260, _));
-    hands!(it.tpdu() => exchange_tpdu(_, _, 261, _, _));
-    hands!(it.tpdu_into(&mut room) => exchange_tpdu(_, space, 260, _, _));
-    hands!(it.answered(&BYTES) => exchange_answered(_, bytes, 7));
-    let mut longer = [0; 261];
-    let space = at(&longer);
-    hands!(it.apdu_into(&mut longer) => exchange_apdu(_, space, 261, _, _));
-    hands!(it.responded(&BYTES) => exchange_responded(_, bytes, 7));
+    passes!(it, "exchange");
     hands!(drop(it) => exchange_free(_));
 }
 
 #[test]
 fn of_a_terminal() {
-    let (bytes, mut room) = (at(&BYTES), [0; 260]);
-    let space = at(&room);
+    let bytes = at(&BYTES);
     let mut it = hands!(Terminal::new() => terminal_new_within(_, 16_384)).expect("a terminal");
     hands!(it.begin(Operation::Select(&BYTES)) => terminal_select(_, bytes, 7));
     hands!(it.begin(Operation::Get(0x9F8101)) => terminal_get(_, 0x9F8101));
     hands!(it.begin(Operation::Put(0x9F8101, &BYTES)) => terminal_put(_, 0x9F8101, bytes, 7));
     hands!(it.begin(Operation::Send(&BYTES)) => terminal_send(_, bytes, 7));
-    let turn = hands!(it.turn() => terminal_next(_, _));
-    assert_eq!(turn, Ok(Turn::Listens));
-    hands!(it.take(0xC3) => terminal_take(_, 0xC3));
-    hands!(it.tpdu() => terminal_tpdu(_, _, 261, _, _));
-    hands!(it.tpdu_into(&mut room) => terminal_tpdu(_, space, 260, _, _));
-    hands!(it.answered(&BYTES) => terminal_answered(_, bytes, 7));
-    let mut longer = [0; 261];
-    let most = at(&longer);
-    hands!(it.apdu_into(&mut longer) => terminal_apdu(_, most, 261, _, _));
-    hands!(it.responded(&BYTES) => terminal_responded(_, bytes, 7));
-    hands!(it.data_sent() => terminal_data_sent(_));
-    hands!(it.answer() => terminal_answer(_, _, _, 0, _));
-    hands!(it.answer_into(&mut room) => terminal_answer(_, _, space, 260, _));
+    assert_eq!(it.turn(), Ok(Turn::Listens));
+    passes!(it, "terminal");
     hands!(it.reset() => terminal_reset(_));
     hands!(drop(it) => terminal_free(_));
 }
@@ -311,11 +315,8 @@ fn of_an_end_at_t1() {
     hands!(it.begin(&BYTES) => t1_begin(_, bytes, 7));
     let sent = hands!(it.block_into(&mut room) => t1_send_bytes(_, space, 258, _, _));
     assert!(sent.expect("a block").is_some());
-    assert!(
-        !hands!(it.receive(&BYTES) => t1_receive_bytes(_, bytes, 7, _))
-            .expect("bytes")
-            .is_whole
-    );
+    let came = hands!(it.receive(&BYTES) => t1_receive_bytes(_, bytes, 7, _));
+    assert!(!came.expect("bytes").is_whole);
     hands!(it.missed() => t1_missed(_));
     hands!(it.damaged() => t1_damaged(_));
     hands!(it.response_into(&mut room[..5]) => t1_response(_, space, 5, _));
@@ -324,11 +325,8 @@ fn of_an_end_at_t1() {
     assert_eq!(fault.cause, Cause::Unknown(0));
     hands!(it.reset() => t1_reset(_));
     tell(1);
-    assert!(
-        hands!(it.receive(&BYTES) => t1_receive_bytes(_, bytes, 7, _))
-            .expect("bytes")
-            .is_whole
-    );
+    let came = hands!(it.receive(&BYTES) => t1_receive_bytes(_, bytes, 7, _));
+    assert!(came.expect("bytes").is_whole);
     tell(2);
     let sent = hands!(it.block_into(&mut room) => t1_send_bytes(_, space, 258, _, _));
     assert_eq!(sent, Ok(None));
@@ -616,14 +614,11 @@ fn of_a_session() {
     let idle = hands!(it.is_idle() => session_idle(_));
     assert_eq!(idle, Ok(false));
     hands!(it.plan(steps, 255) => session_plan(_, letters, 4, 255));
-    hands!(it.select(&BYTES) => session_select(_, bytes, 7),
-        session_answer(_, _, _, 0, _));
-    hands!(it.get(0x9F8101) => session_get(_, 0x9F8101),
-        session_answer(_, _, _, 0, _));
+    hands!(it.select(&BYTES) => session_select(_, bytes, 7), session_answer(_, _, _, 0, _));
+    hands!(it.get(0x9F8101) => session_get(_, 0x9F8101), session_answer(_, _, _, 0, _));
     hands!(it.put(0x9F8101, &BYTES) => session_put(_, 0x9F8101, bytes, 7),
         session_answer(_, _, _, 0, _));
-    hands!(it.send(&BYTES) => session_send(_, bytes, 7),
-        session_answer(_, _, _, 0, _));
+    hands!(it.send(&BYTES) => session_send(_, bytes, 7), session_answer(_, _, _, 0, _));
     hands!(it.answer() => session_answer(_, _, _, 0, _));
     hands!(it.answer_into(&mut room) => session_answer(_, _, space, 9, _));
     hands!(it.listen() => session_listen(_));

@@ -78,8 +78,8 @@ fn a_reader_that_brings_too_much_is_a_fault_at_each_level() {
             (259, Error::TooMany),
             (usize::MAX, Error::TooMany),
         ] {
-            let (mut terminal, mut reader) =
-                (Terminal::new().expect("memory"), Brings(level, count, 0));
+            let mut terminal = Terminal::new().expect("memory");
+            let mut reader = Brings(level, count, 0);
             let found = terminal.run(&mut reader, get);
             assert_eq!(found, Err(RunError::Terminal(wanted)));
             assert_eq!(reader.2, 1);
@@ -131,10 +131,8 @@ fn what_is_no_operation_is_not_begun() {
         .run(&mut reader, Operation::Get(0x50))
         .expect_err("a fault");
     assert!(matches!(found, RunError::Terminal(Error::State)));
-    assert_eq!(
-        terminal.tpdu().expect("memory").expect("due").bytes,
-        [0x00, 0xCA, 0x5F, 0x20, 0x00]
-    );
+    let tpdu = terminal.tpdu().expect("memory").expect("due");
+    assert_eq!(tpdu.bytes, [0x00, 0xCA, 0x5F, 0x20, 0x00]);
     assert_eq!(times, 0);
 }
 
@@ -187,10 +185,8 @@ fn pointers_to_transports_are_transports() {
         assert_eq!(owned(By(boxed)), level);
     }
     let mut card = card();
-    assert_eq!(
-        owned(|tpdu: &[u8], answer: &mut [u8]| card.tpdu_into(tpdu, answer)),
-        Level::Tpdu
-    );
+    let closure = |tpdu: &[u8], answer: &mut [u8]| card.tpdu_into(tpdu, answer);
+    assert_eq!(owned(closure), Level::Tpdu);
 }
 
 /// A card is a transport of TPDUs, under its plans.
@@ -221,10 +217,8 @@ fn closures_carry_whole_commands() {
         card.apdu_into(command, answer)
     });
     assert_eq!(owned(commands), Level::Apdu);
-    assert_eq!(
-        seen,
-        [b"\x00\xA4\x04\x00\x07\xA0\x00\x00\x00\x03\x10\x10\x00"]
-    );
+    let select = b"\x00\xA4\x04\x00\x07\xA0\x00\x00\x00\x03\x10\x10\x00";
+    assert_eq!(seen, [select]);
     let mut gone = whole_commands(|_, _| Err("gone"));
     let mut terminal = Terminal::new().expect("memory");
     let found = terminal.run(&mut gone, Operation::Get(0x50));
@@ -265,12 +259,9 @@ fn reader_of(bytes: &'static [u8]) -> impl FnMut(&[u8], &mut [u8]) -> Result<usi
 fn a_transport_that_writes_less_than_it_claims_delivers_zeros() {
     let mut terminal = Terminal::new().expect("memory");
     let get = Operation::Send(&[0x00, 0xCA, 0x5F, 0x20, 0x06]);
+    let whole = b"\x5F\x20\x03JOE\x90\x00";
     for (says, writes, wanted) in [
-        (
-            8,
-            &b"\x5F\x20\x03JOE\x90\x00"[..],
-            Some(&b"\x5F\x20\x03JOE"[..]),
-        ),
+        (8, &whole[..], Some(&whole[..6])),
         (8, b"", None),
         (8, b"\x5F\x20\x03", None),
         (2, b"", None),
@@ -325,15 +316,8 @@ fn answers_take_what_they_need() {
     let copied = terminal.answer_into(&mut []).expect("no data");
     assert_eq!((copied.status, copied.count), (Status(0x6982), 0));
     terminal.begin(Operation::Put(0x50, b"")).expect("begun");
-    assert_eq!(
-        terminal
-            .tpdu()
-            .expect("memory")
-            .expect("due")
-            .bytes
-            .capacity(),
-        4
-    );
+    let tpdu = terminal.tpdu().expect("memory").expect("due");
+    assert_eq!(tpdu.bytes.capacity(), 4);
     let mut room = [0xEE; 260];
     let due = terminal.tpdu_into(&mut room).expect("room").expect("due");
     assert_eq!((due.count, due.most), (4, 0));

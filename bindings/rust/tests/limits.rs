@@ -37,7 +37,7 @@ fn full_card() -> CardBuilder {
     builder
 }
 
-/// Each part of the tables is told. A value takes no more memory than it needs.
+/// Each part of the tables comes. A value takes no more memory than it needs.
 macro_rules! tells_all {
     ($of:expr) => {
         assert!($of.apps().eq((0..8).map(aid)));

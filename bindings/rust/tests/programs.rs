@@ -36,7 +36,7 @@ fn built(name: &str, manifest: &str, source: &str, words: &[&str]) -> (PathBuf, 
     (target, done)
 }
 
-/// The program of `bare/try`, with the compiler's own `alloc`, and the functions of C that it calls.
+/// The program of `bare/try`, with the compiler's own `alloc`, and functions of C that this calls.
 #[test]
 fn a_program_without_std_links_and_runs() {
     let words = ["rustc", "--", "-C", "link-args=-nostartfiles -lc"];

@@ -77,48 +77,26 @@ AT_T0 = [
 ]
 
 
-def talk(card, tpdu, send):
+def talked(card, digits):
     """Passes a TPDU by characters, as a terminal at T=0 does. Returns data, SW1 and SW2."""
-    tpdu = tpdu if len(tpdu) > 4 else tpdu + b"\x00"
+    tpdu = bytes.fromhex(digits if len(digits) > 8 else f"{digits}00")
     assert card.receive_bytes(tpdu[:5]) == 5
     left, answer, asked = tpdu[5:], b"", tpdu[4] or 256
-    while (byte := send(card)) in (tpdu[1], tpdu[1] ^ 0xFF):
+    while (byte := card.send_bytes(1)[0]) in (tpdu[1], tpdu[1] ^ 0xFF):
         count = (len(left) or asked) if byte == tpdu[1] else 1
         if left:
             assert card.receive_bytes(left[:count]) == count
             left = left[count:]
         else:
-            answer += bytes(send(card) for _ in range(count))
+            answer += card.send_bytes(count)
             asked -= count
-    return answer + bytes([byte, send(card)])
+    return answer + bytes([byte]) + card.send_bytes(1)
 
 
-def talked(card, digits):
-    return talk(card, bytes.fromhex(digits), by_ones)
-
-
-def by_ones(card):
-    [byte] = card.send_bytes(1)
-    return byte
-
-
-class Buffered:
-    """The card's characters, from buffers of this size."""
-
-    def __init__(self, room):
-        self.room, self.left = room, b""
-
-    def __call__(self, card):
-        self.left = self.left or card.send_bytes(self.room)
-        byte, self.left = self.left[0], self.left[1:]
-        return byte
-
-
-@pytest.mark.parametrize("room", [1, 2, 3, 7, 300])
-def test_at_t0(room):
+def test_at_t0():
     with own() as card:
         for sent, answer, seen in AT_T0:
-            assert talk(card, bytes.fromhex(sent), Buffered(room)) == answer, sent
+            assert talked(card, sent) == answer, sent
             assert (card.send_bytes(), log(card)) == (b"", seen), sent
 
 

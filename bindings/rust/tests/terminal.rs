@@ -58,36 +58,29 @@ fn reader_at(level: Level) -> Reader {
 /// again.
 #[test]
 fn a_reader_that_brings_too_much_is_a_fault_at_each_level() {
-    struct Brings(Level, usize, usize);
-    impl Transport for Brings {
-        type Error = Infallible;
-        fn level(&self) -> Level {
-            self.0
-        }
-        fn transmit(&mut self, _: &[u8], answer: &mut [u8]) -> Result<usize, Infallible> {
-            answer.fill(0x90);
-            self.2 += 1;
-            Ok(self.1)
-        }
-    }
     let get = Operation::Send(&[0x00, 0xCA, 0x5F, 0x20, 0x02]);
     for level in [Level::Tpdu, Level::Apdu] {
         for (count, wanted) in [
-            (1, Error::NoStatus),
-            (5, Error::TooMany),
-            (259, Error::TooMany),
-            (usize::MAX, Error::TooMany),
+            (1, Err(Error::NoStatus)),
+            (4, Ok(vec![0x90, 0x90])),
+            (5, Err(Error::TooMany)),
+            (259, Err(Error::TooMany)),
+            (usize::MAX, Err(Error::TooMany)),
         ] {
-            let mut terminal = Terminal::new().expect("memory");
-            let mut reader = Brings(level, count, 0);
-            let found = terminal.run(&mut reader, get);
-            assert_eq!(found, Err(RunError::Terminal(wanted)));
-            assert_eq!(reader.2, 1);
+            let (mut terminal, mut times) = (Terminal::new().expect("memory"), 0);
+            let mut reader = |_: &[u8], answer: &mut [u8]| {
+                answer.fill(0x90);
+                times += 1;
+                Ok::<usize, Infallible>(count)
+            };
+            let found = match level {
+                Level::Tpdu => terminal.run(&mut reader, get),
+                _ => terminal.run(&mut whole_commands(&mut reader), get),
+            };
+            let found = (found.map(|it| it.data), times);
+            assert_eq!(found, (wanted.map_err(RunError::Terminal), 1));
             assert_eq!(terminal.begin(get), Ok(()), "the next operation may begin");
         }
-        let mut terminal = Terminal::new().expect("memory");
-        let answer = terminal.run(&mut Brings(level, 4, 0), get);
-        assert_eq!(answer.expect("an answer").data, [0x90, 0x90]);
     }
 }
 

@@ -6,6 +6,7 @@ use galliumtoad::{Answer, Entry, Level, Pdu, Refused, RunError, Status, Stop, Te
 use galliumtoad::{Application, Command, OwnCard, Response};
 use std::collections::HashSet;
 use std::error::Error as Cause;
+use std::ffi::CString;
 use std::fmt;
 use std::hash::Hash;
 
@@ -215,22 +216,6 @@ fn an_answer_is_one_object_or_not() {
     }
 }
 
-/// An error with a cause.
-#[derive(Debug)]
-struct Gone(fmt::Error);
-
-impl fmt::Display for Gone {
-    fn fmt(&self, f: &mut fmt::Formatter<'_>) -> fmt::Result {
-        f.write_str("the reader is gone")
-    }
-}
-
-impl Cause for Gone {
-    fn source(&self) -> Option<&(dyn Cause + 'static)> {
-        Some(&self.0)
-    }
-}
-
 /// A program that prints an error and each of its causes prints nothing twice.
 #[test]
 fn a_cause_is_told_once() {
@@ -242,10 +227,12 @@ fn a_cause_is_told_once() {
         }
         texts
     };
-    let gone = RunError::Transport(Gone(fmt::Error));
-    let cause = fmt::Error.to_string();
-    assert_eq!(chain(&gone), ["the reader is gone".to_owned(), cause]);
-    let refused: RunError<Gone> = Error::Stalled.into();
+    let name = CString::new(*b"\xFF").expect("no NUL");
+    let gone = name.into_string().expect_err("no UTF-8");
+    let causes = chain(&gone);
+    assert_eq!(causes.len(), 2);
+    assert_eq!(chain(&RunError::Transport(gone)), causes);
+    let refused: RunError<fmt::Error> = Error::Stalled.into();
     assert_eq!(chain(&refused), ["stalled"]);
     let fault = find(&[0x50], &[0x50]).expect_err("a fault");
     assert_eq!(chain(&fault), ["length cut at 0"]);

@@ -1,9 +1,7 @@
-/* Tests answers to reset and PPS. The expected values are worked out by hand from ISO/IEC 7816-3,
- * clauses 8, 9 and 11. */
+/* Tests the record of an answer to reset. The expected values are worked out by hand from ISO/IEC
+ * 7816-3, clauses 8, 10 and 11. What is read, and PPS, are proved (crates/card_c, atr_core). */
 #include "galliumtoad.h"
 #include "check.h"
-
-#define BYTES(s) (const uint8_t *)(s), sizeof(s) - 1
 
 /* Each number of an answer: its name, its offset and its size, on which the archive relies. */
 #define FIELDS(FIELD) \
@@ -78,22 +76,8 @@ static const struct { const char *bytes; gt_atr atr; } ANSWERS[] = {
         { 64, GT_CRC, 2, 1, 13, 11, 22, 1428480 } } },
 };
 
-/* One answer with each fault, its code and its place. */
-static const struct { const char *bytes; size_t n; int32_t code; size_t at; } FAULTS[] = {
-    { "", 0, GT_ATR_CUT, 0 },
-    { "\x3A", 1, GT_ATR_NO_TS, 0 },
-    { "\x3B\x65\x00\x00\x20\x63\xCB\x68", 8, GT_ATR_CUT, 8 },
-    { "\x3B\xFF\x11\x00\x00\xF0\x00\x00\x0A\xF0\x00\x00\x00\xF0\x00\x00\x00\x10\x01"
-      "12345678ABCDEF", 33, GT_ATR_TOO_LONG, 33 },
-    { "\x3B\x80\x81\x00\x01", 5, GT_ATR_ORDER, 3 },
-    { "\x3B\x80\x01\x81\x00", 5, GT_ATR_SURPLUS, 4 },
-    { "\x3B\x80\x01", 3, GT_ATR_CHECK_MISSING, 3 },
-    { "\x3B\x00\x00", 3, GT_ATR_CHECK_NOT_DUE, 2 },
-    { "\x3B\x80\x01\x80", 4, GT_ATR_CHECK_WRONG, 3 },
-};
-
 static void answers(void) {
-    gt_atr atr, untouched;
+    gt_atr atr;
     size_t i, place = 77;
     for (i = 0; i < sizeof ANSWERS / sizeof *ANSWERS; i++) {
         memset(&atr, 0xA5, sizeof atr);
@@ -102,102 +86,10 @@ static void answers(void) {
         is_atr(&atr, &ANSWERS[i].atr);
         CHECK(place, 77);
     }
-    memset(&atr, 0xA5, sizeof atr);
-    untouched = atr;
-    for (i = 0; i < sizeof FAULTS / sizeof *FAULTS; i++) {
-        CHECK(gt_atr_read((const uint8_t *)FAULTS[i].bytes, FAULTS[i].n, &atr, &place),
-              FAULTS[i].code);
-        CHECK(place, FAULTS[i].at);
-    }
-    CHECK_BYTES(&atr, &untouched, sizeof atr);
-}
-
-/* Reads an answer with this code at a place. Its last byte is TCK if `is_checked`. */
-static gt_atr with(const char *answer, size_t n, size_t at, unsigned code, bool is_checked) {
-    uint8_t bytes[6], sum = 0;
-    gt_atr atr;
-    size_t i, place;
-    memcpy(bytes, answer, n);
-    bytes[at] = (uint8_t)code;
-    for (i = 1; i + 1 < n; i++) sum ^= bytes[i];
-    if (is_checked) bytes[n - 1] = sum;
-    CHECK(gt_atr_read(bytes, n, &atr, &place), GT_OK);
-    return atr;
-}
-
-/* Each code of Fi and Di, of clock stop and classes (8.3, tables 7 and 8), and of the first
- * historical byte (ISO/IEC 7816-4, 12.1.1). 0 is for a reserved one. */
-static void codes(void) {
-    static const uint16_t FI[16] = { 372, 372, 558, 744, 1116, 1488, 1860, 0,
-                                     0, 512, 768, 1024, 1536, 2048, 0, 0 };
-    static const uint16_t KHZ[16] = { 4000, 5000, 6000, 8000, 12000, 16000, 20000, 0,
-                                      0, 5000, 7500, 10000, 15000, 20000, 0, 0 };
-    static const uint8_t DI[16] = { 0, 1, 2, 4, 8, 16, 32, 64, 12, 20, 0, 0, 0, 0, 0, 0 };
-    static const uint8_t STOPS[4] = { GT_STOP_NONE, GT_STOP_LOW, GT_STOP_HIGH, GT_STOP_EITHER };
-    static const uint8_t CLASSES[64] = { 0, 1, 2, 3, 4, 0, 6, 7 };
-    unsigned code;
-    for (code = 0; code < 256; code++) {
-        gt_atr atr = with("\x3B\x10\x00", 3, 2, code, false);
-        CHECK(atr.rate_code, code);
-        CHECK(atr.fi, FI[code / 16]);
-        CHECK(atr.max_khz, KHZ[code / 16]);
-        CHECK(atr.di, DI[code % 16]);
-        CHECK(atr.waiting_time, 9600u * FI[code / 16]);
-        atr = with("\x3B\x80\x80\x1F\x00\x00", 6, 4, code, true);
-        CHECK(atr.clock_stop, STOPS[code / 64]);
-        CHECK(atr.classes, CLASSES[code % 64]);
-        atr = with("\x3B\x01\x00", 3, 2, code, false);
-        CHECK(atr.category, code == 0 ? GT_HISTORY_STATUS : code == 0x10 ? GT_HISTORY_DIR
-              : code == 0x80 ? GT_HISTORY_OBJECTS
-              : code > 0x80 && code < 0x90 ? GT_HISTORY_RESERVED : GT_HISTORY_OWN);
-    }
-}
-
-/* 9.2: PPSS, PPS0 with T and a bit for each character that follows, PCK. */
-static void requests(void) {
-    uint8_t request[GT_PPS_LIMIT];
-    size_t n = 0;
-    CHECK(gt_pps_request(0, GT_ABSENT, 0x00, GT_ABSENT, request, &n), GT_OK);
-    CHECK(n, 4);
-    CHECK_BYTES(request, "\xFF\x20\x00\xDF", 4);
-    CHECK(gt_pps_request(1, 0x18, 0x01, 0x02, request, &n), GT_OK);
-    CHECK(n, 6);
-    CHECK_BYTES(request, "\xFF\x71\x18\x01\x02\x95", 6);
-    CHECK(gt_pps_request(0, 257, GT_ABSENT, GT_ABSENT, request, &n), GT_ARGUMENT);
-}
-
-/* 9.3: the response has the same T, and each of PPS1 to PPS3 as in the request, or not at all. */
-static void responses(void) {
-    static const struct { const char *bytes; size_t n; int32_t agreed; } rows[] = {
-        { "\xFF\x71\x18\x01\x02\x95", 6, 1 },
-        { "\xFF\x01\xFE", 3, 1 },
-        { "\xFF\x61\x01\x02\x9D", 5, 1 },
-        { "\xFF\x71\x19\x01\x02\x94", 6, 0 },
-        { "\xFF\x71\x18\x00\x02\x94", 6, 0 },
-        { "\xFF\x71\x18\x01\x03\x94", 6, 0 },
-        { "\xFF\x70\x18\x01\x02\x94", 6, 0 },
-        { "", 0, GT_PPS_CUT },
-        { "\xFE", 1, GT_PPS_NO_PPSS },
-        { "\xFF\x80\x7F", 3, GT_PPS_RESERVED },
-        { "\xFF\x11\x96", 3, GT_PPS_CUT },
-        { "\xFF\x01\xFE\x00", 4, GT_PPS_SURPLUS },
-        { "\xFF\x01\xFF", 3, GT_PPS_CHECK_WRONG },
-    };
-    size_t i;
-    for (i = 0; i < sizeof rows / sizeof *rows; i++) {
-        const uint8_t *response = (const uint8_t *)rows[i].bytes;
-        CHECK(gt_pps_agreed(BYTES("\xFF\x71\x18\x01\x02\x95"), response, rows[i].n),
-              rows[i].agreed);
-        CHECK(gt_pps_agreed(BYTES("\xFF\x01\xFF"), response, rows[i].n), GT_ARGUMENT);
-    }
-    CHECK(gt_pps_agreed(BYTES("\xFF\x00\xFF"), BYTES("\xFF\x10\x96\x79")), 0);
 }
 
 int main(void) {
     layout();
     answers();
-    codes();
-    requests();
-    responses();
     return check_result("atr");
 }

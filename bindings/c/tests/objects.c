@@ -1,5 +1,5 @@
-/* Tests the records and codes of the object reader, of the search by a path of tags and of heads,
- * on bytes that are worked out by hand (EMV Book 3, Annex B). */
+/* Tests the record of an object, and `gt_is_object`, on bytes that are worked out by hand (EMV Book
+ * 3, Annex B). What is listed and found, and each fault, is proved (crates/card_c). */
 #include "galliumtoad.h"
 #include "check.h"
 
@@ -49,41 +49,10 @@ static void lists(void) {
     CHECK(place, 77);
 }
 
-/* The first fault of these bytes, by the list of all objects and by a search. */
-static void faults(void) {
-    static const struct { const char *bytes; size_t n; int32_t code; size_t at; } rows[] = {
-        { "\x50\x00\x5F", 3, GT_TAG_CUT, 2 },
-        { "\x50\x00\x5F\x80", 4, GT_TAG_FORM, 2 },
-        { "\x50", 1, GT_LENGTH_CUT, 0 },
-        { "\x50\x80", 2, GT_LENGTH_FORM, 0 },
-        { "\x70\x03\x50\x02\x00", 5, GT_VALUE_CUT, 2 },
-        { "\x70\x20\x70\x1E\x70\x1C\x70\x1A\x70\x18\x70\x16\x70\x14\x70\x12\x70\x10\x70\x0E\x70\x0C"
-          "\x70\x0A\x70\x08\x70\x06\x70\x04\x70\x02\x70\x00", 34, GT_TOO_DEEP, 32 },
-    };
-    static const uint32_t path[] = { 0x50 };
-    size_t i, count = 99, place;
-    for (i = 0; i < sizeof rows / sizeof *rows; i++) {
-        const uint8_t *bytes = (const uint8_t *)rows[i].bytes;
-        gt_object object = UNTOUCHED;
-        place = 99;
-        CHECK(gt_objects(bytes, rows[i].n, &object, 1, &count, &place), rows[i].code);
-        CHECK(place, rows[i].at);
-        place = 99;
-        CHECK(gt_find(bytes, rows[i].n, path, 1, &object, &place), rows[i].code);
-        CHECK(place, rows[i].at);
-        is_object(&object, &UNTOUCHED);
-    }
-    CHECK(count, 99);
-}
-
-/* Paths that lead to an object and to none, and a step that is no tag. */
 static void paths(void) {
-    static const uint32_t inner[] = { 0x6F, 0xA5, 0x50 }, alone[] = { 0x84 }, no_tag[] = { 0x5F };
+    static const uint32_t inner[] = { 0x6F, 0xA5, 0x50 };
     gt_object object = UNTOUCHED;
     size_t place = 77;
-    CHECK(gt_find(BYTES(LIST), alone, 1, &object, &place), GT_NOT_FOUND);
-    CHECK(gt_find(BYTES(LIST), no_tag, 1, &object, &place), GT_ARGUMENT);
-    is_object(&object, &UNTOUCHED);
     CHECK(gt_find(BYTES(LIST), inner, 3, &object, &place), GT_OK);
     is_object(&object, &OBJECTS[3]);
     CHECK(place, 77);
@@ -114,20 +83,9 @@ static void one_object(void) {
     CHECK(gt_is_object(NULL, 6, 0x5F20), 0);
 }
 
-static void heads(void) {
-    uint8_t head[6];
-    size_t n = 0;
-    CHECK(gt_head(0x9F8101, 65535, head, &n), GT_OK);
-    CHECK(n, 6);
-    CHECK_BYTES(head, "\x9F\x81\x01\x82\xFF\xFF", 6);
-    CHECK(gt_head(0x5F, 0, head, &n), GT_ARGUMENT);
-}
-
 int main(void) {
     lists();
-    faults();
     paths();
     one_object();
-    heads();
     return check_result("objects");
 }

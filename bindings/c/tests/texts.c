@@ -1,7 +1,6 @@
-/* Tests the texts for unknown values, the words of statuses, and the numbers and layouts that the
- * header fixes.
- * `checks/bindings/same` compares codes, texts and limits with the crate for Rust and the
- * definitions. */
+/* Tests the texts for unknown values, the words of statuses, the numbers and layouts that the header
+ * fixes, and that the library fits it. `checks/bindings/same` compares codes, texts and limits with
+ * the crate for Rust and the definitions. */
 #include "galliumtoad.h"
 #include "check.h"
 
@@ -106,6 +105,8 @@ static void numbers(void) {
     CHECK(GT_UNKNOWN, 1);
     CHECK(GT_IN_PART, 2);
     CHECK(GT_VERSION, 0x000300);
+    CHECK(gt_version(), GT_VERSION);
+    CHECK(gt_version_fits(), 1);
 }
 
 /* An empty handle, and the offset of each field, which the archive relies on. */

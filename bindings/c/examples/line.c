@@ -17,6 +17,7 @@
 #include <unistd.h>
 
 static const uint8_t AID[] = { 0xA0, 0x00, 0x00, 0x00, 0x03, 0x10, 0x10 };
+static uint8_t data[GT_RESPONSE_LIMIT];
 
 /* a value of two chained commands, since none carries more than 255 bytes */
 #define LONG_VALUE 300
@@ -27,8 +28,10 @@ static void stop(const char *what)
     exit(1);
 }
 
-static void stop_at(const char *what, int32_t code)
+static void check(const char *what, int32_t code)
 {
+    if (code >= 0)
+        return;
     fprintf(stderr, "%s: %s\n", what, gt_text(code));
     exit(1);
 }
@@ -83,80 +86,41 @@ static void trace(char *last, char end, uint8_t byte)
     printf("%02X", (unsigned)byte);
 }
 
-/* Carries out one command over the line; the data go to `data`, which has room for all. */
-static uint16_t carry_out(int line, const uint8_t *command, size_t n, uint8_t *data, size_t room,
-                          size_t *length)
+/* Carries out the operation that has begun with `code`, and returns the length of its data. */
+static size_t carry_out(int line, gt_terminal *terminal, int32_t code)
 {
-    gt_exchange exchange = GT_INIT;
     uint16_t status;
     uint8_t byte;
     char last = '\0';
-    int32_t code = gt_exchange_start(&exchange, command, n);
-    if (code != GT_OK)
-        stop_at("the command", code);
-    while ((code = gt_exchange_next(&exchange, &byte)) != GT_DONE) {
+    size_t n;
+    check("the operation", code);
+    while ((code = gt_terminal_next(terminal, &byte)) != GT_DONE) {
+        check("the terminal", code);
         if (code == GT_SENDS) {
             trace(&last, '>', byte);
             if (!put_byte(line, byte))
                 stop("the line");
-        } else if (code == GT_OK) {
+        } else {
             if (!get_byte(line, &byte))
                 stop("the line");
             trace(&last, '<', byte);
-            code = gt_exchange_take(&exchange, byte);
-            if (code != GT_OK)
-                stop_at("the card", code);
-        } else {
-            stop_at("the exchange", code);
+            check("the card", gt_terminal_take(terminal, byte));
         }
     }
-    code = gt_exchange_answer(&exchange, &status, data, room, length);
-    if (code != GT_OK)
-        stop_at("the answer", code);
-    printf("\n= %04X, %lu bytes\n", (unsigned)status, (unsigned long)*length);
-    gt_exchange_free(&exchange);
-    return status;
-}
-
-static void select_app(int line)
-{
-    uint8_t command[5 + sizeof AID + 1] = { 0x00, 0xA4, 0x04, 0x00, sizeof AID };
-    uint8_t data[64];
-    size_t length;
-    memcpy(command + 5, AID, sizeof AID);
-    if (carry_out(line, command, sizeof command, data, sizeof data, &length) != 0x9000)
+    check("the answer", gt_terminal_answer(terminal, &status, data, sizeof data, &n));
+    printf("\n= %04X, %lu bytes\n", (unsigned)status, (unsigned long)n);
+    if (status != 0x9000)
         exit(1);
+    return n;
 }
 
-/* PUT DATA, in chained commands of at most 255 bytes. */
-static void put(int line, uint8_t p1, uint8_t p2, const uint8_t *value, size_t n)
+/* GET DATA; the response must be one object with this tag and value. */
+static void check_value(int line, gt_terminal *terminal, uint32_t tag, const uint8_t *value,
+                        size_t n)
 {
-    uint8_t command[5 + 255];
-    size_t length;
-    do {
-        size_t piece = n > 255 ? 255 : n;
-        command[0] = n > piece ? 0x10 : 0x00;
-        command[1] = 0xDA;
-        command[2] = p1;
-        command[3] = p2;
-        command[4] = (uint8_t)piece;
-        memcpy(command + 5, value, piece);
-        if (carry_out(line, command, 5 + piece, command, sizeof command, &length) != 0x9000)
-            exit(1);
-        value += piece;
-        n -= piece;
-    } while (n > 0);
-}
-
-/* GET DATA; the response must be an object with this tag and value. */
-static void check(int line, uint32_t tag, const uint8_t *value, size_t n)
-{
-    const uint8_t command[] = { 0x00, 0xCA, (uint8_t)(tag >> 8), (uint8_t)tag, 0x00 };
-    static uint8_t data[GT_RESPONSE_LIMIT];
+    const size_t length = carry_out(line, terminal, gt_terminal_get(terminal, tag));
     gt_object object;
-    size_t length, count, place;
-    if (carry_out(line, command, sizeof command, data, sizeof data, &length) != 0x9000)
-        exit(1);
+    size_t count, place;
     if (gt_objects(data, length, &object, 1, &count, &place) != GT_OK || count != 1
         || object.tag != tag || object.length != n
         || memcmp(data + object.value, value, n) != 0) {
@@ -168,13 +132,16 @@ static void check(int line, uint32_t tag, const uint8_t *value, size_t n)
 static void be_terminal(int line)
 {
     static const uint8_t name[] = { 'J', 'O', 'E' };
+    gt_terminal terminal = GT_INIT;
     uint8_t value[LONG_VALUE];
     memset(value, 0x42, sizeof value);
-    select_app(line);
-    put(line, 0x5F, 0x20, name, sizeof name);
-    put(line, 0x00, 0x50, value, sizeof value);
-    check(line, 0x5F20, name, sizeof name);
-    check(line, 0x50, value, sizeof value);
+    check("the terminal", gt_terminal_new(&terminal));
+    carry_out(line, &terminal, gt_terminal_select(&terminal, AID, sizeof AID));
+    carry_out(line, &terminal, gt_terminal_put(&terminal, 0x5F20, name, sizeof name));
+    carry_out(line, &terminal, gt_terminal_put(&terminal, 0x50, value, sizeof value));
+    check_value(line, &terminal, 0x5F20, name, sizeof name);
+    check_value(line, &terminal, 0x50, value, sizeof value);
+    gt_terminal_free(&terminal);
 }
 
 /* Opens both ends of a pseudo terminal, which passes all bytes unchanged. */

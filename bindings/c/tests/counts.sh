@@ -20,6 +20,23 @@ has() {
   return 1
 }
 
+# step WHAT COMMAND..: adds the counts of its last line, or passes if that has no counts. Its output
+# is in the folder `room`; `under` says more of WHAT. If FIRST is set, a failure ends the script
+step() {
+  local what=$1${under:-} last
+  shift
+  if "$@" > "$room/said" 2>&1; then
+    last=$(tail -n 1 "$room/said")
+    [[ $last =~ ^([a-z_]+: )?([0-9]+)\ passed,\ [0-9]+\ failed$ ]]
+    passed=$((passed + ${BASH_REMATCH[2]:-1}))
+  else
+    failed=$((failed + 1))
+    echo "failed: $what"
+    tail -n 20 "$room/said"
+    [ -z "${FIRST:-}" ] || exit 1
+  fi
+}
+
 # sum: prints the counts, and ends the script
 sum() {
   if [ "$skipped" -gt 0 ]; then

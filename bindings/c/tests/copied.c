@@ -1,5 +1,5 @@
-/* Tests that `gt_card_tpdu` and `gt_card_apdu` wipe their copy of the input. A card amid a TPDU stays
- * off the stack. `forwards.c` tests that they copy it. */
+/* Tests that `gt_card_tpdu` and `gt_card_apdu` wipe their copy of the input. A card amid a TPDU
+ * stays off the stack. `forwards.c` tests that they copy it. */
 #ifndef _GNU_SOURCE
 #define _GNU_SOURCE /* for pthread_attr_setstack in strict C99 */
 #endif

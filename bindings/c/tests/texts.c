@@ -1,6 +1,6 @@
-/* Tests the texts for unknown values, the words of statuses, the numbers and layouts that the header
- * fixes, and that the library fits it. `checks/bindings/same` compares codes, texts and limits with
- * the crate for Rust and the definitions. */
+/* Tests the texts for unknown values, the words of statuses, the numbers and layouts that the
+ * header fixes, and that the library fits it. `checks/bindings/same` compares codes, texts and
+ * limits with the crate for Rust and the definitions. */
 #include "galliumtoad.h"
 #include "check.h"
 

@@ -13,25 +13,7 @@ const WAITS: T1Waits = T1Waits {
     guard: Duration::from_millis(3),
 };
 
-/// Why the line of these tests has no response.
-#[derive(Debug, PartialEq)]
-enum Gone {
-    Cable,
-    End(Error),
-    GaveUp(T1Fault),
-}
-
-impl From<Error> for Gone {
-    fn from(error: Error) -> Gone {
-        Gone::End(error)
-    }
-}
-
-impl From<T1Fault> for Gone {
-    fn from(fault: T1Fault) -> Gone {
-        Gone::GaveUp(fault)
-    }
-}
+type Fault = Box<dyn std::error::Error>;
 
 /// A call of the line: what was sent, or how long it had to wait.
 #[derive(Debug, PartialEq)]
@@ -51,17 +33,17 @@ struct Scripted {
 }
 
 impl Line for Scripted {
-    type Error = Gone;
+    type Error = Fault;
 
-    fn send(&mut self, bytes: &[u8]) -> Result<(), Gone> {
+    fn send(&mut self, bytes: &[u8]) -> Result<(), Fault> {
         assert!(self.arrived.is_empty(), "all that is late is dropped first");
         self.calls.push(Call::Sent(bytes.to_vec()));
-        self.arrived
-            .extend(self.answers.pop_front().ok_or(Gone::Cable)?);
+        let answer = self.answers.pop_front().ok_or("no cable")?;
+        self.arrived.extend(answer);
         Ok(())
     }
 
-    fn receive(&mut self, room: &mut [u8], wait: Duration) -> Result<usize, Gone> {
+    fn receive(&mut self, room: &mut [u8], wait: Duration) -> Result<usize, Fault> {
         assert_eq!(room.len(), BLOCK_LIMIT);
         self.calls.push(Call::Waited(wait.as_millis() as u64));
         let count = self.at_once.min(self.arrived.len());
@@ -97,9 +79,11 @@ fn line(answers: &[&[u8]], at_once: usize) -> T1Line<Scripted> {
     T1Line::new(end(), WAITS, scripted)
 }
 
-fn response(line: &mut T1Line<Scripted>) -> Result<Vec<u8>, Gone> {
+/// The response to a command, or the text of the fault.
+fn response<L: Line<Error = Fault>>(line: &mut T1Line<L>) -> Result<Vec<u8>, String> {
     let mut room = [0; 258];
-    let count = line.transmit(GET, &mut room)?;
+    let passed = line.transmit(GET, &mut room);
+    let count = passed.map_err(|it| it.to_string())?;
     Ok(room[..count].to_vec())
 }
 
@@ -133,10 +117,8 @@ fn a_command_keeps_the_times_of_the_line() {
 /// A whole block with 9000 from before the command, and a byte behind a block, are no answer.
 #[test]
 fn what_is_late_is_dropped() {
-    let mut line = line(
-        &[&[&ifs()[..], b"\x00"].concat(), &block(0x00, b"\x6A\x88")],
-        300,
-    );
+    let late = [ifs(), vec![0x00]].concat();
+    let mut line = line(&[&late, &block(0x00, b"\x6A\x88")], 300);
     line.line.arrived.extend(block(0x00, b"\x90\x00"));
     assert_eq!(response(&mut line), Ok(b"\x6A\x88".to_vec()));
     assert_eq!(line.line.calls[0], Call::Waited(3));
@@ -161,12 +143,10 @@ fn a_block_that_stops_is_asked_for_again() {
 #[test]
 fn a_silent_card_is_given_up() {
     let mut line = line(&[&ifs(), b"", b"", &ifs(), &block(0x00, b"\x90\x00")], 300);
-    match response(&mut line) {
-        Err(Gone::GaveUp(fault)) => assert_eq!(fault.outcome, Outcome::Unknown),
-        other => panic!("{other:?}"),
-    }
+    let gave_up = "too many tries without progress: the card may have carried out the command";
+    assert_eq!(response(&mut line), Err(gave_up.into()));
     assert_eq!(line.line.answers.len(), 2);
-    assert_eq!(response(&mut line), Err(Gone::End(Error::State)));
+    assert_eq!(response(&mut line), Err(Error::State.to_string()));
     assert_eq!(line.line.answers.len(), 2, "nothing is sent");
     line.end.reset().expect("a handle");
     assert_eq!(response(&mut line), Ok(b"\x90\x00".to_vec()));
@@ -177,23 +157,22 @@ fn a_line_that_fails_ends_the_command() {
     let mut line = line(&[&ifs()], 300);
     let mut terminal = Terminal::new().expect("memory");
     let found = terminal.run(&mut line, Operation::Get(0x5F20));
-    assert_eq!(found, Err(RunError::Transport(Gone::Cable)));
-    assert_eq!(response(&mut line), Err(Gone::End(Error::State)));
+    assert!(matches!(found, Err(RunError::Transport(it)) if it.to_string() == "no cable"));
+    assert_eq!(response(&mut line), Err(Error::State.to_string()));
     // more bytes than there is room for
     struct Claims;
     impl Line for Claims {
-        type Error = Gone;
-        fn send(&mut self, _: &[u8]) -> Result<(), Gone> {
+        type Error = Fault;
+        fn send(&mut self, _: &[u8]) -> Result<(), Fault> {
             Ok(())
         }
-        fn receive(&mut self, room: &mut [u8], wait: Duration) -> Result<usize, Gone> {
+        fn receive(&mut self, room: &mut [u8], wait: Duration) -> Result<usize, Fault> {
             let late = wait == WAITS.guard;
             Ok(if late { 0 } else { room.len() + 1 })
         }
     }
-    let mut line = T1Line::new(end(), WAITS, Claims);
-    let found = line.transmit(GET, &mut [0; 258]);
-    assert_eq!(found, Err(Gone::End(Error::TooMany)));
+    let found = response(&mut T1Line::new(end(), WAITS, Claims));
+    assert_eq!(found, Err(Error::TooMany.to_string()));
 }
 
 /// A line that is never quiet, and whose bytes are no block, ends in a fault too.
@@ -201,11 +180,11 @@ fn a_line_that_fails_ends_the_command() {
 fn noise_is_given_up() {
     struct Noise(usize);
     impl Line for Noise {
-        type Error = Box<dyn std::error::Error>;
-        fn send(&mut self, _: &[u8]) -> Result<(), Self::Error> {
+        type Error = Fault;
+        fn send(&mut self, _: &[u8]) -> Result<(), Fault> {
             Ok(())
         }
-        fn receive(&mut self, room: &mut [u8], _: Duration) -> Result<usize, Self::Error> {
+        fn receive(&mut self, room: &mut [u8], _: Duration) -> Result<usize, Fault> {
             room[0] = 0xFF;
             self.0 += 1;
             assert!(self.0 < 10_000, "it ends");
@@ -225,10 +204,8 @@ fn noise_is_given_up() {
 /// Seven times a very long BWT is no overflow.
 #[test]
 fn a_wait_may_be_of_any_length() {
-    let mut line = line(
-        &[&ifs(), &block(0xC3, b"\x07"), &block(0x00, b"\x90\x00")],
-        300,
-    );
+    let [more, answer] = [block(0xC3, b"\x07"), block(0x00, b"\x90\x00")];
+    let mut line = line(&[&ifs(), &more, &answer], 300);
     line.waits.block = Duration::MAX;
     assert_eq!(response(&mut line), Ok(b"\x90\x00".to_vec()));
 }

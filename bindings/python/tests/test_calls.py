@@ -530,7 +530,7 @@ def test_a_card_sends_16384_characters_at_once():
     with card() as held:
         held.tpdu(SELECT[:-1])
         held.plan("n" * 20000)
-        assert held.receive_bytes(bytes.fromhex("00CA5F2006")) == 5
+        assert held.receive_bytes(bytes.fromhex("00CA5F200600")) == 5  # it has more to send
         sent = [held.send_bytes(1 << 30) for _ in range(3)]
     assert [len(it) for it in sent] == [16384, 20009 - 16384, 0]
     assert b"".join(sent) == b"\x60" * 20000 + bytes.fromhex("CA5F20034A4F459000")

@@ -22,6 +22,22 @@ pub record CardOf (A : Type 0) : Type 0 where
   pub waiting : Waiting
   pub ready : Ready
 
+-- the card as it is made
+abbrev pub new_card : {A : Type 0} → A → CardOf A
+new_card app = record {
+  app = app;
+  kept = [];
+  fresh = [];
+  waiting = waiting.Nothing;
+  ready = ready.Nothing;
+}
+
+-- nothing is kept if nothing is pending
+abbrev pub IsWiped : Waiting → List ℕ → Type 0
+IsWiped waiting.Nothing kept = kept ≡ []
+IsWiped (waiting.Fetch from status) kept = Unit {0}
+IsWiped (waiting.Repeat header status) kept = Unit {0}
+
 -- what is pending in this buffer
 abbrev pub left_of : List ℕ → Waiting → Left
 left_of bytes waiting.Nothing = Nothing_left

@@ -10,7 +10,7 @@ ghost use Rattle.t0_core.specs.DataRun.{IsRunAt};
 ghost use Rattle.command_card.specs.Carrying.{Makes, asking};
 ghost use Rattle.command_card.specs.State.{Hand, For_repeat, same_header, pending_for, announcing, fetch_left, handed, refusing};
 ghost use Rattle.command_card.specs.Meaning.{Does};
-ghost use Rattle.command_card.specs.View.{left_of, state_of, state_after, ask_of, prepared_of, buffer_of, bytes_of, sends, IsReady, IsEnded, Prepares, MaySend, WaitsFor, LeavesFor};
+ghost use Rattle.command_card.specs.View.{left_of, state_of, state_after, ask_of, prepared_of, buffer_of, bytes_of, sends, IsReady, IsEnded, IsWiped, Prepares, MaySend, WaitsFor, LeavesFor};
 
 use crate::application::{Application, GET_RESPONSE, OWN_RESPONSE_LIMIT};
 use crate::ready::{Ending, Ready, Waiting};
@@ -339,9 +339,11 @@ pub(crate) fn take_effect<A: Application>(
     fresh: &mut Vec<u8>,
     ending: &Ending,
 )
-    ensures { state_of (A.standing application.new) kept.new.items ending.now.left
+    ensures after { state_of (A.standing application.new) kept.new.items ending.now.left
         ≡ state_after (A.standing application.old) (A.next application.old) kept.old.items
         fresh.old.items ending.now }
+    ensures fresh { fresh.new.items ≡ [] }
+    ensures kept { IsWiped ending.now.left kept.new.items }
 {
     if ending.settles {
         application.settle();

@@ -26,7 +26,7 @@ pub struct CommandCard<A: Application> {
 
 impl<A: Application> Model for CommandCard<A> {
     ghost use Rattle.apdu_core.specs.declared.header.Header.{Header};
-    ghost use Rattle.command_card.specs.View.{CardOf, IsReady, MaySend, WaitsFor, LeavesFor};
+    ghost use Rattle.command_card.specs.View.{CardOf, IsReady, IsWiped, MaySend, WaitsFor, LeavesFor};
 
     ghost Value = { CardOf A };
 
@@ -41,23 +41,17 @@ impl<A: Application> Model for CommandCard<A> {
     ghost invariant = { λ c. IsReady A.takes A.Does (A.standing c.application)
         (A.next c.application) c.kept.items c.fresh.items c.waiting c.ready
         × ((h : Header) → WaitsFor c.waiting h → MaySend A.takes h)
-        × ((h : Header) → LeavesFor c.ready h → MaySend A.takes h) };
+        × ((h : Header) → LeavesFor c.ready h → MaySend A.takes h)
+        × IsWiped c.waiting c.kept.items };
 }
 
 impl<A: Application> CommandCard<A> {
-    ghost use Rattle.std.specs.Prelude.{◌≡◌, []};
-    ghost use Rattle.command_card.specs.declared.ready.Waiting.TheVariants as waiting;
-    ghost use Rattle.command_card.specs.declared.ready.Ready.TheVariants as ready;
+    ghost use Rattle.std.specs.Prelude.{◌≡◌};
+    ghost use Rattle.command_card.specs.View.{new_card};
 
     /// Makes the card of an application. Nothing is pending.
     pub fn new(alloc: Global, application: A) -> CommandCard<A>
-        ensures { result ≡ record {
-          app = application;
-          kept = [];
-          fresh = [];
-          waiting = waiting.Nothing;
-          ready = ready.Nothing;
-        } }
+        ensures { result ≡ new_card application }
     {
         CommandCard {
             application,
@@ -77,6 +71,8 @@ impl<A: Application> CommandCard<A> {
 }
 
 impl<A: Application> TpduCard for CommandCard<A> {
+    ghost use Rattle.std.specs.Prelude.{◌≡◌, []};
+    ghost use Rattle.t0_core.specs.Meaning.{Nothing};
     ghost use Rattle.command_card.specs.State.{CardState};
     ghost use Rattle.command_card.specs.Meaning.{Does};
     ghost use Rattle.command_card.specs.View.{standing_in, prepared_in, after_reset, MayReceive, MaySend};
@@ -152,7 +148,12 @@ impl<A: Application> TpduCard for CommandCard<A> {
         self.ready = Ready::Nothing;
     }
 
-    fn reset(&mut self) {
+    fn reset(&mut self)
+        ensures stands { standing_in A.standing self.new
+            ≡ after_reset A.after_reset (standing_in A.standing self.old) }
+        ensures dropped { prepared_in A.standing A.next self.new ≡ Nothing }
+        ensures wiped { self.new.fresh ≡ [] }
+    {
         self.application.reset();
         wipe(&mut self.kept);
         wipe(&mut self.fresh);

@@ -1,5 +1,5 @@
 //! An application that changes at once. The card works on a copy of it.
-ghost use Rattle.std.specs.Prelude.{◌≡◌, [], IfOk, IfErr};
+ghost use Rattle.std.specs.Prelude.{◌≡◌, [], None, IfOk, IfErr};
 ghost use Rattle.command_card.specs.Carrying.{Did, IsOwn, out_of_memory};
 
 use crate::application::Application;
@@ -76,7 +76,7 @@ pub struct Copied<E: Eager + Drop> {
 impl<E: Eager + Drop> Copied<E> {
     /// Makes an [`Application`] of this one. Its commands take effect when they settle.
     pub fn new(current: E) -> Copied<E>
-        ensures { result.current ≡ current }
+        ensures { result ≡ record { current = current; changed = None } }
     {
         Copied {
             current,

@@ -1,5 +1,5 @@
 //! An application whose responses come from outside, one for each command.
-ghost use Rattle.std.specs.Prelude.{◌≡◌, ◌<◌, ◌≤◌, ◌^◌, length, true, None, is_some, IfOk, OnOk, OnErr};
+ghost use Rattle.std.specs.Prelude.{◌≡◌, ◌<◌, ◌≤◌, ◌^◌, [], length, true, None, is_some, IfOk, OnOk, OnErr};
 ghost use Rattle.command_card.specs.declared.application.TheConstants.{OWN_RESPONSE_LIMIT};
 ghost use Rattle.command_card.specs.Carrying.{IsOwn};
 ghost use Rattle.command_card.specs.Given.{IsGiven, after_drop, forgotten, go_to_card, settled, with_answer, without_answer};
@@ -65,7 +65,7 @@ pub struct Given {
 }
 
 impl Model for Given {
-    ghost use Rattle.std.specs.Prelude.{◌≡◌, ◌≤◌, false, length, MatchOption, ⊤};
+    ghost use Rattle.std.specs.Prelude.{◌≡◌, ◌≤◌, [], length, MatchOption, if◌then◌else◌};
     ghost use Rattle.command_card.specs.declared.application.TheConstants.{OWN_RESPONSE_LIMIT};
     ghost use Rattle.command_card.specs.Carrying.{IsOwn};
     ghost use Rattle.command_card.specs.Given.{GivenState, answer_of};
@@ -78,8 +78,8 @@ impl Model for Given {
       settled = g.settled;
     } };
 
-    ghost invariant = { λ g. (g.used ≡ false → g.spare.items ≡ g.bytes.items)
-        × MatchOption g.status ⊤ (λ status. IsOwn status
+    ghost invariant = { λ g. (g.spare.items ≡ (if g.used then [] else g.bytes.items))
+        × MatchOption g.status (g.bytes.items ≡ []) (λ status. IsOwn status
         × (length g.bytes.items ≤ OWN_RESPONSE_LIMIT)) };
 }
 
@@ -166,8 +166,9 @@ impl Given {
             return Err(AllocError);
         };
         self.status = None;
-        self.used = true;
+        wipe(into);
         swap(&mut self.bytes, into);
+        wipe(&mut self.spare);
         self.settle();
         Ok(status)
     }
@@ -191,9 +192,10 @@ impl Given {
     }
 }
 
-/// Replaces the content of `into`.
+/// Replaces the content of `into`. If memory runs out, nothing is left of it.
 fn copied(bytes: &[u8], into: &mut Vec<u8>) -> Result<(), AllocError>
-    ensures { OnOk result (into.new.items ≡ bytes.now) }
+    ensures done { OnOk result (into.new.items ≡ bytes.now) }
+    ensures failed { OnErr result (into.new.items ≡ []) }
 {
     wipe(into);
     if bytes.is_empty() {

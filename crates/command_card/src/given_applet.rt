@@ -57,6 +57,7 @@ impl Applet for GivenApplet {
 
     ghost Does = { DoesBytes RespondsAtT1 };
 
+    #[tactic(auto, using(crate::proofs::AppletLemmas::forgotten_stands))]
     fn carry_out(
         &mut self,
         command: &[u8],

@@ -1,6 +1,7 @@
 //! The card of an application whose responses come from outside, and what it asks its caller.
 ghost use Rattle.std.specs.Prelude.{◌≡◌, ◌+◌, ◌≤◌, [], length, vec_capacity, None, Some, true, false, OnOk, OnErr, IfOk, IfErr};
 ghost use Rattle.apdu_core.specs.declared.header.Header.{Header};
+ghost use Rattle.apdu_core.specs.CommandBytes.{IsCommand};
 ghost use Rattle.command_card.specs.declared.given.Directions.TheVariants as way;
 ghost use Rattle.command_card.specs.declared.applet.TheConstants.{RESPONSE_ROOM};
 ghost use Rattle.command_card.specs.Given.{Gives, settled, takes_data};
@@ -176,7 +177,8 @@ impl CommandCard<Given> {
     ///
     /// # Errors
     /// - `AllocError`: memory ran out, a TPDU is in progress at the card, this is no command, or
-    ///   the response that it needs was not given. Nothing is carried out; `response` may be empty.
+    ///   the response that it needs was not given. Nothing is carried out, and the last response is
+    ///   wiped, as by `forget`.
     pub fn respond(
         &mut self,
         header: Header,
@@ -185,21 +187,24 @@ impl CommandCard<Given> {
     ) -> Result<(), AllocError>
         ensures prepared { prepared_in (λ s. s) settled self.new
             ≡ prepared_in (λ s. s) settled self.old }
-        ensures failed { OnErr result
-            (standing_in (λ s. s) self.new ≡ standing_in (λ s. s) self.old) }
+        ensures failed { OnErr result (self.new ≡ forgotten_by self.old) }
         ensures done { OnOk result (RespondsAs
             (standing_in (λ s. s) self.old)
             (record { header = header; content = bytes.now; le = le }) self.new.fresh
             (standing_in (λ s. s) self.new)) }
+        ensures whole { OnOk result
+            (IsCommand (record { header = header; content = bytes.now; le = le })) }
+        ensures free { OnOk result
+            ((is_free self.old.ready ≡ true) × (self.new.ready ≡ self.old.ready)) }
         ensures short { OnOk result (length self.new.fresh ≤ may_bring le + 2) }
     {
-        let Some(command) = Command::new(header, bytes, le) else {
-            return Err(AllocError);
-        };
-        if !matches!(self.ready, Ready::Nothing) {
+        if !is_free(&self.ready) {
             return Err(AllocError);
         }
         wipe(&mut self.fresh);
+        let Some(command) = Command::new(header, bytes, le) else {
+            return Err(AllocError);
+        };
         self.fresh.reserve(RESPONSE_ROOM)?;
         self.waiting = respond_given(
             &mut self.application,
@@ -249,8 +254,8 @@ fn respond_given(
     response: &mut Vec<u8>,
 ) -> Result<Waiting, AllocError>
     requires { (response.old.items ≡ []) × (RESPONSE_ROOM ≤ vec_capacity response.old) }
-    ensures failed { OnErr result
-        ((application.new ≡ application.old) × (kept.new.items ≡ kept.old.items)) }
+    ensures failed { OnErr result ((application.new ≡ application.old)
+        × (kept.new.items ≡ kept.old.items) × (response.new.items ≡ [])) }
     ensures responds { IfOk result (λ left. Responds takes_data Gives
         (state_of application.old kept.old.items waiting)
         command.now response.new.items
@@ -449,12 +454,15 @@ pub fn respond_to(
     ensures stage { end.new.stage ≡ end.old.stage }
     ensures prepared { prepared_in (λ s. s) settled end.new.card
         ≡ prepared_in (λ s. s) settled end.old.card }
-    ensures failed { OnErr result
-        (standing_in (λ s. s) end.new.card ≡ standing_in (λ s. s) end.old.card) }
+    ensures failed { OnErr result (end.new.card ≡ forgotten_by end.old.card) }
     ensures done { OnOk result (RespondsAs
         (standing_in (λ s. s) end.old.card)
         (record { header = header; content = bytes.now; le = le }) end.new.card.fresh
         (standing_in (λ s. s) end.new.card)) }
+    ensures whole { OnOk result
+        (IsCommand (record { header = header; content = bytes.now; le = le })) }
+    ensures free { OnOk result ((is_free end.old.card.ready ≡ true)
+        × (end.new.card.ready ≡ end.old.card.ready)) }
     ensures short { OnOk result (length end.new.card.fresh ≤ may_bring le + 2) }
 {
     end.with_card(|card| card.respond(header, bytes, le))

@@ -6,11 +6,12 @@ use Rattle.command_card.proofs.own.CommandCard+Given.take_back.Goals as goal
 
 pub invariant_of-self : goal.invariant_of-self
 invariant_of-self c =
-    let (ready, waits, leaves) = c.self.invariant in let inside = c.self.inside in
+    let (ready, waits, leaves, wiped) = c.self.invariant in let inside = c.self.inside in
     let app = c.drop_response.new.self in
     let none = is_nothing inside.ready (sym c.is_free.ensures ∙ c.if-is_free.true) in (
       subst (λ r. IsReady takes_data Answers app (settled app) inside.kept.items inside.fresh.items
           inside.waiting r) (sym none) tt,
       waits,
       leaves,
+      wiped,
     )

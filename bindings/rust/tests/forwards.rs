@@ -435,6 +435,10 @@ fn of_what_buffers_tell() {
         assert_eq!(sent(card.send_bytes(&mut [])), stop);
         assert_eq!(received(card.receive_bytes(&[])), taking);
     }
+    for (code, turn) in [(0, Turn::Listens), (1, Turn::Sends(0)), (2, Turn::Done)] {
+        tell(code);
+        assert_eq!((exchange.turn(), terminal.turn()), (Ok(turn), Ok(turn)));
+    }
     tell(0);
 }
 

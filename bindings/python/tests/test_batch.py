@@ -1,6 +1,7 @@
 """Tests batches of cards, over a stand-in for pyscard that changes the cards. Runs are killed at
 random, have a full disk or a cut journal, run twice at once, or meet cards of another profile."""
 
+import argparse
 import fcntl
 import json
 import os
@@ -8,6 +9,7 @@ import random
 import signal
 import subprocess
 import sys
+import threading
 import time
 
 import pytest
@@ -197,6 +199,46 @@ def test_threads_and_processes_reserve_different_rows(tmp_path):
     assert one.reserve(2) is None
     one.decide(2, "again")
     assert one.reserve(2) == 2
+
+
+def test_a_journal_that_is_replaced_or_removed_takes_no_row(tmp_path):
+    room, file = Room(tmp_path, 2), tmp_path / "journal"
+    room.create()
+    journal = room.opened(2)
+    assert journal.reserve() == 1
+    (copy := tmp_path / "copy").write_bytes(file.read_bytes())
+    copy.replace(file)
+    for call in (journal.reserve, journal.undecided, lambda: journal.note(1, "begin", "00 Slot0")):
+        with pytest.raises(ValueError, match="journal was replaced: look what the last cards hold"):
+            call()
+    assert room.events() == []
+    file.unlink()
+    with pytest.raises(FileNotFoundError):
+        journal.note(1, "begin", "00 Slot0")
+
+
+def test_a_row_that_begins_after_a_second_interrupt(tmp_path, monkeypatch):
+    """A reader that still connects keeps its row, and begins no other."""
+    room = Room(tmp_path, 2)
+    room.create()
+    room.run("--check")  # so that there is a module `smartcard`
+    from galliumtoad.batch import desk
+
+    def connected(name):
+        at._interrupt()
+        at._interrupt()
+        is_over.wait(60)
+        return own(name)
+
+    own, is_over = desk.connected, threading.Event()
+    monkeypatch.setattr(desk, "connected", connected)
+    monkeypatch.setenv("STANDIN", str(tmp_path))
+    at = desk.Desk([[], []], room.opened(2), argparse.Namespace(go=True, stop_after=1, reader=[]))
+    at.run()
+    [reader] = [it for it in threading.enumerate() if isinstance(it, desk.Reader)]
+    is_over.set()
+    reader.join()
+    assert at.faults == [] and room.events() == ["begin 1", "done 1"]
 
 
 def begun(room):

@@ -6,6 +6,7 @@ import os
 import pty
 import re
 import select
+import shlex
 import subprocess
 import time
 from datetime import datetime, timedelta, timezone
@@ -123,6 +124,20 @@ class Terminal:
                 except OSError:
                     break
         return self.text
+
+
+@pytest.mark.parametrize("without", [":", "exec >&-", "exec 2>&-", "exec <&-"])
+def test_a_run_without_a_terminal_of_its_own_or_a_stream(tmp_path, without):
+    """In a shell whose standard input is the terminal of another session, or without a stream."""
+    room, (ours, theirs) = Room(tmp_path, 2), pty.openpty()
+    room.environment["SLOW"] = "0.1"
+    shell = f"{without}; exec {shlex.join(room.words())}"
+    run = subprocess.run(["setsid", "-w", "sh", "-c", shell], cwd=tmp_path, env=room.environment,
+                         stdin=theirs, stdout=subprocess.PIPE, stderr=subprocess.PIPE, timeout=60)
+    assert (run.returncode, run.stderr) == (0, b"")
+    assert room.events() == ["begin 1", "done 1", "begin 2", "done 2"]
+    os.close(ours)
+    os.close(theirs)
 
 
 def test_enter_writes_the_card_that_lies_in_the_reader(tmp_path):

@@ -102,11 +102,9 @@ class Desk:
                 opened.write("\n".join([about, *lines, ""]))
         except OSError as error:
             self.say(f"the dialogue of row {row} is lost: {error.strerror}")
-        with self._alone:
-            failures = next(self._failures)
-        if failures == self.given.stop_after:
+        if next(self._failures) == self.given.stop_after:
             self.stopped.set()
-            self.say(f"stopped: {failures} rows failed")
+            self.say(f"stopped: {self.given.stop_after} rows failed")
 
     def run(self) -> None:
         """Serves the readers. Then waits for cards in progress, unless Ctrl-C was pressed twice."""
@@ -124,7 +122,8 @@ class Desk:
             for it in readers:
                 if self._interrupts < 2:
                     it.join()
-                it.give_up()
+                elif it.row and self.journal.state(it.row) == "unsure":  # another may begin still
+                    it.give_up()
             if self._bar:
                 print(_WIPE, end="", flush=True)
 
@@ -145,7 +144,7 @@ class Desk:
             except OSError as error:
                 self.say(f"no report: {error}")
             self._reported = size
-            if sys.stdout.isatty():  # a bar, with the rate and the time left
+            if sys.stdout and sys.stdout.isatty():  # a bar, with the rate and the time left
                 done, all_of = self.journal.count("done"), len(self.journal.numbers)
                 rate = (done - self._done_before) / max(self._looked - self._begun, 0.1) * 60
                 left = f", {(all_of - done) / rate:.0f} min left" if rate else ""
@@ -154,9 +153,10 @@ class Desk:
                     self._bar = f"[{full}] {done} of {all_of} rows, {rate:.0f} a minute{left}"
                     print(f"{_WIPE}{self._bar}", end="", flush=True)
         time.sleep(0.1)
-        # A job in the background must not read.
-        if sys.stdin and sys.stdin.isatty() and os.tcgetpgrp(0) == os.getpgrp():
-            self.keys += bool(select.select([sys.stdin], [], [], 0)[0] and sys.stdin.readline())
+        # A job in the background must not read, nor one of another session than its terminal.
+        with contextlib.suppress(OSError):
+            if sys.stdin and sys.stdin.isatty() and os.tcgetpgrp(0) == os.getpgrp():
+                self.keys += bool(select.select([sys.stdin], [], [], 0)[0] and sys.stdin.readline())
 
 
 class Reader(threading.Thread):

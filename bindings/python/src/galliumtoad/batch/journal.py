@@ -187,6 +187,8 @@ class Journal:
         with self._alone:
             fcntl.lockf(self._file, fcntl.LOCK_EX, 1, 0)
             try:
+                if not os.path.samestat(os.stat(self.path), os.fstat(self._file)):
+                    raise ValueError(f"{self.path} was replaced: look what the last cards hold")
                 self._catch_up()
                 yield
             finally:
@@ -210,8 +212,7 @@ class Journal:
             what = f"no line of a journal, or no row of the table: {word} {number}"
             raise ValueError(f"{self.path} is damaged: {what}") from None
         if word == "begin":
-            check, _, reader = note.partition(" ")
-            self.rows[row] = Entry(check, reader, at, at)
+            self.rows[row] = Entry(*note.partition(" ")[::2], at, at)
         elif word == "card":
             self.rows[row].card, self.cards[note] = note, row
         else:

@@ -288,10 +288,9 @@ def carry_out(
                 reader.hides_header = False
             if not has_written:
                 identify(terminal)
-    except Refused as error:
-        return "failed" if has_written else "unused", sentence(error)
-    except (ConnectionError, ValueError, Error) as error:
-        return "unsure" if has_written else "unused", sentence(error)
+    except (Refused, ConnectionError, ValueError, Error) as error:
+        word = "failed" if isinstance(error, Refused) else "unsure"
+        return word if has_written else "unused", sentence(error)
     return "done", ""
 
 

@@ -52,6 +52,16 @@ def test_a_card_whose_row_is_not_done_is_refused_too(tmp_path, number, state):
     assert listed(out) == {1: state}
 
 
+def test_a_journal_that_an_editor_wrote_with_other_ends_of_lines_knows_its_cards(tmp_path):
+    room, file = Room(tmp_path, 2), tmp_path / "journal"
+    assert room.run("--id=9F7F", "--stop-after=9")[0] == 0
+    file.write_bytes(b"\r\n".join(file.read_bytes().splitlines()[:4]) + b"\r\n")
+    room.put_in(room.names[0], 0)
+    status, out, _ = room.run()
+    assert status == 0 and f"card {id_of(room, 0)} has row 1, which is done" in out
+    assert room.events()[3:] == ["begin 2", "unused 2", "begin 2", "card 2", "done 2"]
+
+
 def test_a_card_is_refused_before_it_changes(tmp_path):
     """The card holds its first row still, and the journal has no second card line."""
     room = Room(tmp_path, 2)

@@ -197,7 +197,7 @@ class Journal:
     def _catch_up(self) -> None:
         text = os.pread(self._file, os.fstat(self._file).st_size - self._read, self._read)
         whole = text[: text.rfind(b"\n") + 1]
-        for line in whole.split(b"\n")[0 if self._read else 1 : -1]:
+        for line in whole.replace(b"\r\n", b"\n").split(b"\n")[0 if self._read else 1 : -1]:
             self._take_in(line.decode(errors="replace"))
         self._read += len(whole)
 

@@ -299,13 +299,16 @@ class Wrong(Application):
 """
 
 
-def test_the_simulation_ends_at_such_a_result(tmp_path):
-    (tmp_path / "wrong.py").write_text(COUNTS.replace("RESULT", "None"))
+@pytest.mark.parametrize(("result", "said"), [
+    ("None", " returned None, not a status and up to 4096 bytes of data\n"),
+    ("open('/none')", ": [Errno 2] No such file or directory: '/none'\n"),
+])
+def test_the_simulation_ends_at_such_a_result(tmp_path, result, said):
+    (tmp_path / "wrong.py").write_text(COUNTS.replace("RESULT", result))
     card = Card("--application", "wrong:Wrong", cwd=tmp_path)
     os.write(card.line, bytes.fromhex("8010000000"))
     assert card.program.wait(60) == 2
-    said = "wrong:Wrong.carry_out returned None, not a status and up to 4096 bytes of data\n"
-    assert card.end()[1] == said
+    assert card.end()[1] == f"wrong:Wrong.carry_out{said}"
 
 
 @pytest.mark.parametrize("result", ["(0x9000, bytearray(b'AB'))", "[0x9000, memoryview(b'AB')]"])

@@ -1,5 +1,6 @@
 """Tests the program `galliumtoad.trials` with terminals that are good, or bad in a known way."""
 
+import contextlib
 import json
 import sys
 from pathlib import Path
@@ -108,5 +109,7 @@ def test_other_words(capsys):
         assert main(["--limit", limit, "--", "true", "{tty}"]) == 2
         assert f"--limit is {limit}" in capsys.readouterr().err.replace(".0,", ",")
     assert main(["--list"]) == 0 and capsys.readouterr().out.count("\n\n") == 59
+    with open("/dev/full", "w") as full, contextlib.redirect_stdout(full):
+        assert main(["--list"]) == 2 and "No space left" in capsys.readouterr().err
     assert main(["--vpcd", "localhost:1", "--", "{reader}"]) == 2
     assert main(["--only", "late", "--", "/none/at/all", "{tty}"]) == 2

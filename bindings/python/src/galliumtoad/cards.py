@@ -72,7 +72,8 @@ def application(name: str) -> Application:
     own = made.carry_out
 
     def carry_out(command: Command) -> tuple[int, bytes]:
-        given = own(command)
+        with mistakes(f"{name}.carry_out", OSError):  # which would be the end of the line
+            given = own(command)
         with contextlib.suppress(TypeError, ValueError):
             status, data = given
             if len(kept := bytes(memoryview(data))) <= 4096:

@@ -69,11 +69,11 @@ class Gone(Exception):
 
 
 @contextlib.contextmanager
-def mistakes(what: str) -> Iterator[None]:
-    """Makes errors about a word or a file, which is `what`, a `Mistake`."""
+def mistakes(what: str, *kinds: type[Exception]) -> Iterator[None]:
+    """Makes errors about a word or a file, which is `what`, a `Mistake`; or errors of `kinds`."""
     try:
         yield
-    except (AttributeError, ImportError, IndexError, OSError, ValueError, Error) as why:
+    except kinds or (AttributeError, ImportError, IndexError, OSError, ValueError, Error) as why:
         raise Mistake(f"{what}: {why}") from None
 
 

@@ -288,9 +288,8 @@ def serve_pty(of: Simulator, has_echo: bool, tell: Callable[[str], object]) -> N
 def connected(address: str) -> socket.socket:
     """Connects to vpcd. Raises `OSError`, and `Mistake` for an address without a port."""
     host, _, port = address.rpartition(":")
-    if not port.isdigit():
-        raise Mistake(f"argument --vpcd: HOST:PORT is expected: {address}")
-    return socket.create_connection((host or "localhost", int(port)))
+    with mistakes(f"argument --vpcd: HOST:PORT is expected: {address}", ValueError):
+        return socket.create_connection((host or "localhost", range(65536).index(int(port))))
 
 
 def talk_vpcd(of: Simulator, line: socket.socket, tell: Callable[[str], object]) -> None:

@@ -166,10 +166,10 @@ def possible(given: argparse.Namespace) -> list[Trial]:
 def main(words: Optional[list[str]] = None) -> int:
     """Runs the program. Returns the exit status."""
     given = parser().parse_args(words)
-    if given.list:
-        print("\n\n".join(f"{it.name}: {it.faults}\n{it.says}" for it in trials()))
-        return 0
     try:
+        if given.list:
+            print("\n\n".join(f"{it.name}: {it.faults}\n{it.says}" for it in trials()))
+            return 0
         results = possible(given)
         width = max((len(it.name) for it in results), default=0)
         for it in results:

@@ -1,7 +1,7 @@
 """The cases of `trace_explain`: input, words and expected output.
 
-- checks/explain/cases/NAME.trace with NAME.out, NAME.args and NAME.err, most of them in the folder
-  captures/: whole sessions, with the whole output. NAME_MORE.out has the same trace.
+- checks/explain/cases/NAME.trace with NAME.out (the whole output), NAME.args (words), and NAME.err
+  (standard error, if the status is 1). Those in captures/ are whole sessions.
 - statuses.txt: `HEADER STATUS SENTENCE`, the sentence for a status after such a command.
 - titles.txt: the title of a command, as `HEADER | TITLE`, `HEADER > DATA | TITLE` (data of the
   terminal) or `HEADER < DATA | TITLE` (data of the card).
@@ -9,9 +9,8 @@
 - long_traces.py: traces in which the interesting part comes late.
 - stories.cases: several TPDUs, in lines that begin with a word:
   - `in`: a line of the trace; `with`: a line of the second trace for `--diff`; `$`: the words.
-  - `out`: a line of the output, and `again 3` the same three times more. Rows of headers, procedure
-    bytes, data and statuses are left out, except with a mask or `--diff`. Of a page only the part
-    below its head is compared.
+  - `out`: a line of the output. Rows of headers, procedure bytes, data and statuses are left out,
+    except with a mask or `--diff`. Of a page only the part below its head is compared.
   - `refused`, `name` and `whole`: the lines of a GET DATA (`GETS`), as `refused #2 3` for its
     number and line, and then its time if it has one. `object` is its last rows (`OBJECT`).
   - `box #2 3 GET DATA of 50 | < 4142 | 9000`: a TPDU with its number, line, title, data and status.
@@ -518,8 +517,6 @@ def add_row(case, word, rest, part):
         case.other += rest.encode() + b"\n"
     elif word == "out":
         case.wanted.append(rest)
-    elif word == "again":
-        case.wanted += case.wanted[-1:] * int(rest)
     elif word == "object":
         case.wanted += OBJECT
     elif word in ("box", "counts"):
@@ -616,8 +613,7 @@ def whole_cases():
     """The cases of checks/explain/cases, which list the whole output."""
     for out in sorted(CASES.rglob("*.out")):
         text = {kind: there(out.with_suffix(f".{kind}")) for kind in ("out", "args", "err")}
-        traces = out.with_suffix(".trace"), out.with_name(f"{out.stem.rpartition('_')[0]}.trace")
-        given = next(it for it in traces if it.exists()).read_bytes()
+        given = out.with_suffix(".trace").read_bytes()
         time = TIME.search(text["out"].rpartition(f"{BLOCK}\n")[2])
         yield Case(out.stem, given, text["out"].splitlines(), text["args"].split(), text["err"],
                    time=time[1] if time else "")
@@ -662,13 +658,13 @@ def tables():
 
 
 def rows_and_stories():
-    """The cases of the tables. Those with signs are also tried without."""
+    """The cases of the tables, and whole sessions. Those with signs are also tried without."""
     signed = table_cases()
-    return [*signed, *unsigned_cases([*signed, *whole_cases()])]
+    return [*signed, *unsigned_cases(signed)]
 
 
 def table_cases():
-    """The cases of the tables."""
+    """The cases of the tables, and whole sessions."""
     return [
         status_case(),
         title_case(),
@@ -688,6 +684,7 @@ def table_cases():
         *story_cases("names.cases", "shown"),
         *link_cases(),
         *part_cases(),
+        *whole_cases(),
     ]
 
 
@@ -695,7 +692,7 @@ def all_cases():
     """All cases, the small ones first. Those with secrets are tried in one way only."""
     secret = secret_cases([["--resume"], ["--json", "--commands"]])
     long = long_cases(long_traces.traces())
-    return [*rows_and_stories(), *secret, *whole_cases(), *long]
+    return [*rows_and_stories(), *secret, *long]
 
 
 def run_of(program, case, folder):

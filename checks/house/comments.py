@@ -1,5 +1,4 @@
-"""Cuts a source into its code and its comments, in each language of the repository. words.py reads
-the comments, `same` compares the code."""
+"""Finds the comments of a source, in each language of the repository, for words.py."""
 
 import ast
 import io
@@ -45,34 +44,6 @@ def comments(path, text):
         yield from of_shell(text)
 
 
-def code(path, text):
-    """The code alone: without comments, blank lines and the white space around lines. For Python,
-    its syntax tree."""
-    if is_python(path, text):
-        return tree(text)
-    left = list(text)
-    starts = [0]
-    for line in text.splitlines(keepends=True):
-        starts.append(starts[-1] + len(line))
-    for place, said in placed(path, text, starts):
-        left[place : place + len(said)] = "\n" if "\n" in said else " " * len(said)
-        left[place + 1 : place + 1] = [""] * (len(said) - 1) if "\n" in said else []
-    lines = (re.sub(r"\s+", " ", line).strip() for line in "".join(left).splitlines())
-    return "\n".join(line for line in lines if line)
-
-
-def placed(path, text, starts):
-    """The place and the text of each comment of a file that is not Python."""
-    if is_shell(path, text):
-        for line, said in of_shell(text):
-            yield text.index(said, starts[line - 1]), said
-        return
-    pattern = ANTT if path.endswith(".antt") else LEXED
-    for it in pattern.finditer(text):
-        if is_comment(it):
-            yield it.start(), it[0]
-
-
 def is_comment(found):
     named = found.groupdict()
     return (named.get("line") or named.get("block")) is not None
@@ -102,14 +73,6 @@ def of_python(text):
 def has_docstring(node):
     kinds = (ast.Module, ast.ClassDef, ast.FunctionDef, ast.AsyncFunctionDef)
     return isinstance(node, kinds) and ast.get_docstring(node, clean=False) is not None
-
-
-def tree(text):
-    root = ast.parse(text)
-    for node in ast.walk(root):
-        if has_docstring(node):
-            node.body = node.body[1:] or [ast.Pass()]
-    return ast.dump(root, indent=0)
 
 
 def of_shell(text):

@@ -1,7 +1,6 @@
 """Tests of the check itself: a small repository without findings, and for each kind of finding an
 edit that the check must find, with file and line."""
 
-from comments import code
 from sources import Repository
 
 LIST = "checks/house/stays.txt"
@@ -125,6 +124,8 @@ FAULTS = [
     ("phrase", "bindings/lamp.h", 2, [("bindings/lamp.h", "its light", "what is told")]),
     ("phrase", TOOL, 3, [(TOOL, "lit", "told")]),
     ("phrase", "tools/lamp.help", 1, [("tools/lamp.help", "Lights a lamp", "It is told")]),
+    ("phrase", "tools/lamp.sh", 2, [("tools/lamp.sh", None, "#!/bin/sh\n# What is told.\n")]),
+    ("phrase", "tools/lamp.py", 1, [("tools/lamp.py", None, '"""What is told."""\n')]),
     ("phrase", PAGE, 5, [(PAGE, "red", "is told")]),
     ("phrase", PAGE, 1, [(PAGE, "# Lamps", "# What is told")]),
     ("sentence", PAGE, 7, [(PAGE, "One burns.", f"One burns. {MANY} `a lit lamp`.")]),
@@ -151,6 +152,8 @@ PLAIN = [
     (TOOL, '"It is "\n    "lit', '"It is",\n    "told'),
     (PAGE, "One burns.", f"{MANY}. {MANY}.\n\n```c\nis told {MOST} {MOST}\n```\n"),
     (PAGE, "red", "x" * 300),
+    ("tools/lamp.sh", None, "#!/bin/sh\necho '\n# is told\n'\n"),
+    ("tools/lamp.py", None, 'LIT = "# is told"\n'),
     (LAMP, "-> bool", "-> bool\n        requires { lit }"),
     ("crates/high/src/lib.rt", "{}", "{\n    Lamp.light();\n}"),
 ]
@@ -186,21 +189,3 @@ def tried(find):
     for title, found, place in rows:
         is_well = [(it.path, it.line) for it in found] == ([place] if place else [])
         yield title, is_well, found
-
-
-# Sources for `same`: the path, a text, the text with other comments alone, and with other code.
-CODE = [
-    ("a.rt", '/// A.\nfn f(c: char) { c == \'"\' } // f "\n', "fn f(c: char) { c == '\"' }\n",
-     '/// A.\nfn f(c: char) { c == \'x\' } // f "\n'),
-    ("a.c", 'char *f = "/* //"; /* f\n * g */\n', 'char *f = "/* //";\n', 'char *f = "/*"; // "\n'),
-    ("a.antt", "-- f\nf : ℕ\nf = n --g -- h\n", "f : ℕ\nf = n --g\n", "-- f\nf : ℕ\nf = n\n"),
-    ("a.py", '"""A."""\nf = "# g"  # h\n', 'f = "# g"\n', '"""A."""\nf = "# h"  # h\n'),
-    ("a.sh", "# f\necho '\n# g\n'\n", "echo '\n# g\n'\n", "# f\necho '\n# h\n'\n"),
-]
-
-
-def compared():
-    """Whether `same` ignores other comments, and finds other code."""
-    for path, text, commented, coded in CODE:
-        yield f"comments of {path}", code(path, text) == code(path, commented), [path]
-        yield f"code of {path}", code(path, text) != code(path, coded), [path]

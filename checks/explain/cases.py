@@ -7,7 +7,8 @@
   terminal) or `HEADER < DATA | TITLE` (data of the card).
 - secrets_told.py: traces with a secret, which the output must not show.
 - long_traces.py: traces in which the interesting part comes late.
-- stories.cases: several TPDUs, in lines that begin with a word:
+- stories.cases: several TPDUs. A case begins with `case`, or with `signed` if only the signs show
+  who sent what. Its other lines begin with a word, too:
   - `in`: a line of the trace; `with`: a line of the second trace for `--diff`; `$`: the words.
   - `out`: a line of the output. Rows of headers, procedure bytes, data and statuses are left out,
     except with a mask or `--diff`. Of a page only the part below its head is compared.
@@ -80,49 +81,6 @@ COUNTED = re.compile(rb"^\d+ +[^\d ]", re.M)
 SPEAK_OF_SIGNS = {"--form", "--swap", "--unsigned", "--tpdu"}
 # The directions of instructions that no table has.
 WAYS = ["--to-card", "50,82,A8,AE,E2"]
-# Cases in which only the signs show who sent what.
-TOLD_BY_SIGNS = {
-    # the trace begins inside a TPDU
-    "a trace that begins within a dialogue with a character that may be TS: none is lost",
-    "characters before a header are no answer, whatever comes next",
-    # after an invalid answer to reset, or after the first characters of PPS
-    "a page of answers and an exchange",
-    "answers at fault or cut off, and what follows them",
-    "PPS that is agreed, changed, refused or cut off",
-    # an answer to reset that begins with `03` after a TPDU
-    "answers of which no line says, behind an answer, TPDUs and a chain",
-    # the same bytes in the other direction
-    "two traces whose data go another way, and of which one is cut off",
-    # characters of the card at the place of a header, and a sign without characters
-    "characters of the card after a reset that begin no answer, in two lines",
-    "a note with signs of JSON and other bytes, a reset, an answer, PPS, and stray bytes",
-    "no TPDU begins with a sign alone, whose line has a time",
-    # characters of the card before a header that a mask hides
-    "one that begins with all that VERIFY sends, then a command",
-    "a hidden header stands alone, and nothing is said of its size",
-    "after a reset with a byte of the card, and after one with none",
-    "after an answer to reset that is cut off, one at fault, and a PPS response that is cut off",
-    "the status of a hidden command is worded as that of any command",
-    "a comparison of two such traces",
-    "a page",
-    # a block that is cut off or comes again: ends take no turns
-    "made here: a chain of the terminal, as a line that damages a block shows it",
-    "made here: a byte is lost, so that the block is cut off where the other end begins",
-    "made here: two damaged blocks of one end in a line end where their LEN says",
-    "made here: after a wrong LEN, what follows is cut in wrong places up to where the other end "
-    "begins",
-    "a mask hides what blocks without a response carry",
-    "blocks with CRC read as such with LRC: a CRC fits all but the third, and the last has an "
-    "invalid NAD",
-    "blocks with CRC, read as such with LRC",
-    "from memory: firmware of a reader, with times; the third block is lost on its way to the card",
-    # separators other than spaces
-    "colons, commas and 0x between bytes",
-    # notes that consist of digits
-    "digits without a sign are notes after a line that has one",
-    "a sign without characters is one, too",
-    "a time before a reset, and before a note",
-}
 # A word beside a hidden value of an object.
 BESIDE = re.compile(r"^(?: {15}|  [<>] data {7}) *(?:[0-9A-F]{2})+ \*\*.")
 WORDED = re.compile(r"^( *(?:[<>] data +)?(?:[0-9A-F]{2})+.*?)  [A-Za-z].*$")
@@ -159,6 +117,7 @@ class Case:
     secret: bytes = b""
     other: bytes = b""
     time: str = ""
+    is_signed: bool = False
 
     def fault(self, out, err):
         """What is wrong with the output, or an empty text."""
@@ -494,8 +453,8 @@ def story_cases(name, part):
     found = []
     for line in rows(name):
         word, _, rest = line.partition(" ")
-        if word == "case":
-            found.append(Case(rest, b"", [], part=part))
+        if word in ("case", "signed"):
+            found.append(Case(rest, b"", [], part=part, is_signed=word == "signed"))
         elif word == "bad":
             words = ["--tpdu"] if name == "logs.cases" else []
             found.append(Case(f"bad hex: {rest}", bytes_of(rest), [], words, "line 1: bad hex\n",
@@ -623,7 +582,7 @@ def unsigned_cases(signed):
     """The same cases without signs, except those in which only signs show who sent what."""
     for case in signed:
         words = {word for word in case.words if word.startswith("--")}
-        if case.error or words & SPEAK_OF_SIGNS or case.name in TOLD_BY_SIGNS:
+        if case.error or words & SPEAK_OF_SIGNS or case.is_signed:
             continue
         given, other = (SIGNED.sub(rb"\1", it) for it in (case.given, case.other))
         if given != case.given and not COUNTED.search(case.given + case.other):

@@ -2,6 +2,8 @@
 
 import enum
 import gc
+import itertools
+import sys
 import threading
 from contextlib import contextmanager
 from dataclasses import FrozenInstanceError
@@ -9,10 +11,11 @@ from types import SimpleNamespace
 from unittest.mock import Mock
 
 import pytest
-from galliumtoad import (Answer, Atr, AtrError, AtrT1, BlockError, BuildError, CallError, Card,
-                         Code, CommandError, Due, Edc, Entry, Exchange, Get, Level, LineError,
-                         ObjectsError, OutOfMemory, Outcome, Pps, PpsError, Put, Refused, Select,
-                         Send, Session, Status, T1, Terminal, TransportError, find, head, objects)
+from galliumtoad import (Answer, Application, Atr, AtrError, AtrT1, BlockError, BuildError,
+                         CallError, Card, Code, CommandError, Due, Edc, Entry, Exchange, Get, Level,
+                         LineError, ObjectsError, OutOfMemory, Outcome, OwnCard, Pps, PpsError, Put,
+                         Refused, Select, Send, Session, Status, T1, Terminal, TransportError, find,
+                         head, objects)
 from galliumtoad._library import ffi, lib
 from galliumtoad.errors import checked
 from galliumtoad.handle import Handle
@@ -497,6 +500,44 @@ def test_a_second_thread_in_a_handle_is_refused():
     leave.set()
     first.join()
     assert held.tpdu(SELECT[:-1]) == bytes.fromhex("610B")
+
+
+def interrupted(call, place):
+    """Makes a call whose `place`th call of a function in C is followed by an exception, as a
+    signal's handler may raise it. Returns whether there was one."""
+    returns = itertools.count(1)
+
+    def look(frame, event, arg):
+        if event == "c_return" and next(returns) == place:
+            raise KeyboardInterrupt
+
+    sys.setprofile(look)
+    try:
+        call()
+    except KeyboardInterrupt:
+        return True
+    finally:
+        sys.setprofile(None)
+    return False
+
+
+def test_an_interrupted_call_leaves_the_handle_free():
+    class Own(Application):
+        def takes_data(self, header):
+            return False
+
+        def carry_out(self, command):
+            return 0x9000, bytes(5)
+
+    ends = [card(), OwnCard(Own()), Terminal()]
+    for end in ends[:2]:
+        for place in itertools.count(1):
+            is_in = interrupted(lambda: ends[2].run(end.tpdu, Get(0x5F20)), place)
+            for it in ends:
+                it.reset()
+            if not is_in:
+                break
+        assert place > 10
 
 
 @pytest.mark.parametrize("data", [SELECT[:-1], bytearray(SELECT[:-1]), memoryview(SELECT)[:-1]])

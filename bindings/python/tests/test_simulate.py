@@ -229,6 +229,14 @@ def test_vpcd_loses_the_card(vpcd, monkeypatch, fault, least, most):
     assert it.ask(bytes.fromhex("00CA5F2000")).hex() == "6985" and len(it.struck) == 1
 
 
+def test_a_command_that_the_connection_cuts_is_not_carried_out(vpcd):
+    it = vpcd("command 1, reset")
+    it.line.sendall(b"\x00\x0D" + SELECT)
+    it.line.close()
+    it.accept()
+    assert it.ask(b"\x04").hex() == "3b00" and it.struck == []
+
+
 def test_a_reset_by_a_fault_at_vpcd(vpcd):
     """It forgets what was selected; vpcd has no message for it."""
     it = vpcd("command 2, reset")

@@ -1,7 +1,7 @@
 """Handles of the library, and what their calls take and return. Every other module uses it."""
 
 import contextlib
-from typing import Any, Collection, Iterable, TypeVar, Union, get_args
+from typing import Any, Collection, Iterable, Iterator, TypeVar, Union, get_args
 
 from ._library import ffi, lib
 from .errors import checked
@@ -9,6 +9,8 @@ from .errors import checked
 Bytes = Union[bytes, bytearray, memoryview]
 Self = TypeVar("Self", bound="Handle")
 BYTES, COUNT = ffi.typeof("uint8_t[]"), ffi.typeof("size_t *")
+# A call enters inside `try`, since a signal's handler may raise after any call of C.
+_IN_PROGRESS = "another call of this handle is in progress"
 FUNCTIONS = {it: getattr(lib, it) for it in dir(lib) if it.startswith("gt_")}
 
 
@@ -69,8 +71,8 @@ class Handle:
 
     def __init__(self, kind: str, *calls: tuple[Any, ...]) -> None:
         self._handle = ffi.gc(ffi.new(f"gt_{kind} *"), FUNCTIONS[f"gt_{kind}_free"])
-        # The handle is in `_free` while no call has it. The buffer is empty then.
-        self._start, self._free = f"gt_{kind}_", [self._handle]
+        # While no call has the handle, `_calls` and the buffer are empty.
+        self._start, self._calls = f"gt_{kind}_", list[str]()
         self._room, self._count = writable(lib.GT_RESPONSE_LIMIT)
         self._most, self._status = ffi.new(COUNT), ffi.new("uint16_t *")
         self._written = ffi.buffer(self._room)
@@ -86,29 +88,29 @@ class Handle:
               cell: Any = None) -> Any:
         """As `_call`, at less cost. With a `cell` it returns what the function has written to the
         handle's buffer, which is wiped, and set in the cell; but the code of a fault in `but`."""
-        handle = self._taken()
         try:
-            code = FUNCTIONS[self._start + name](handle, *words)
+            self._calls.append(name)
+            if len(self._calls) > 1:
+                raise RuntimeError(_IN_PROGRESS)
+            code = FUNCTIONS[self._start + name](self._handle, *words)
             if cell is not None and code >= 0:
                 count, written = self._count[0], self._written
                 data, written[:count] = written[:count], bytes(count)
                 return data, cell[0]
         finally:
-            self._free.append(handle)
+            self._calls.pop()
         return checked(code, place, but) if code else 0
 
-    def _taken(self) -> Any:
-        """Takes the handle for one call of the library, which puts it back."""
-        try:
-            return self._free.pop()
-        except IndexError:
-            raise RuntimeError("another call of this handle is in progress") from None
-
-    def _alone(self) -> contextlib.ExitStack:
+    @contextlib.contextmanager
+    def _alone(self) -> Iterator[None]:
         """Holds the handle for this thread, until the end of `with`."""
-        held = contextlib.ExitStack()
-        held.callback(self._free.append, self._taken())
-        return held
+        try:
+            self._calls.append("")
+            if len(self._calls) > 1:
+                raise RuntimeError(_IN_PROGRESS)
+            yield
+        finally:
+            self._calls.pop()
 
     def _copied(self, name: str, words: Iterable[Any] = (), *, room: int) -> bytes:
         """Calls a function with the handle's buffer, a room and a count. Returns what it wrote."""

@@ -303,12 +303,12 @@ def talk_vpcd(of: Simulator, line: socket.socket, tell: Callable[[str], object])
                 # vpcd sends the rest once the length is acknowledged, else 40 ms later.
                 line.setsockopt(socket.IPPROTO_TCP, socket.TCP_QUICKACK, 1)
                 data = line.recv(int.from_bytes(size, "big"), socket.MSG_WAITALL)
-                if data in (POWER_OFF, POWER_ON, RESET):
+                is_cut = len(data) < int.from_bytes(size, "big")  # the connection has ended
+                if is_cut or data in (POWER_OFF, POWER_ON, RESET):
                     of.reset()
                     looks = 2
                     continue
-                looks -= data == GET_ATR
-                if looks == 0:
+                if (looks := looks - (data == GET_ATR)) == 0:
                     tell("")
                 answer = of.atr if data == GET_ATR else of(data)
                 line.sendall(len(answer).to_bytes(2, "big") + answer)

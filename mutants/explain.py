@@ -157,13 +157,20 @@ impl Names {
         let mut names = Names::none(alloc);
         names.text = String::from_str(alloc, self.text.as_str()).unwrap();
         names.own = self.own;
-        for rows in &self.tags {
-            names.tags.push(Vec::from_slice(alloc, rows.as_slice()).unwrap()).unwrap();
-        }
-        names.aids = Vec::from_slice(alloc, self.aids.as_slice()).unwrap();
-        names.bits = Vec::from_slice(alloc, self.bits.as_slice()).unwrap();
+        names.tags = twins(alloc, &self.tags);
+        names.aids = twins(alloc, &self.aids);
+        names.bits = twins(alloc, &self.bits);
         names
     }
+}
+
+/// The same lists.
+fn twins<T: Copy + Drop>(alloc: Global, lists: &Vec<Vec<T>>) -> Vec<Vec<T>> {
+    let mut twins = Vec::new(alloc);
+    for rows in lists {
+        twins.push(Vec::from_slice(alloc, rows.as_slice()).unwrap()).unwrap();
+    }
+    twins
 }
 """
 

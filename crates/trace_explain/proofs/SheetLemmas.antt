@@ -1,9 +1,10 @@
 -- Pieces that are added to a sheet, one after another.
-use Rattle.std.proofs.Common.{◌≡◌, ℕ, List, [], ◌∷◌, ◌++◌, ◌∙◌, ◌+◌, ◌-◌, ◌<◌, ◌≤◌, ◌/◌, ◌%◌, length, slice_index, drop, get_or, take, flat_map, suc, arith, ap, append-nil, append_assoc, Bool, refl, subst, sym, true}
+use Rattle.std.proofs.Common.{◌≡◌, ℕ, List, [], ◌∷◌, ◌++◌, ◌∙◌, ◌+◌, ◌-◌, ◌<◌, ◌≤◌, ◌/◌, ◌%◌, length, slice_index, drop, get_or, take, take-add, flat_map, suc, arith, ap, append-nil, append_assoc, Bool, refl, subst, sym, true}
 use Rattle.std.proofs.lemmas.List.{drop_all, drop_more, nil_from_length, flat_map_more}
 use Rattle.std.proofs.lemmas.List.Concat.{flat_map-append}
 use Rattle.std.proofs.lemmas.Str.{encode_ascii}
 use Rattle.std.specs.Char.{encode_utf8}
+use Rattle.std.specs.List.{slice_range}
 use Rattle.hex.specs.Hex.{encode_upper, encode_with, upper_digits}
 use Rattle.trace_explain.specs.declared.write.sheet.Sheet.{Sheet}
 use Rattle.trace_explain.specs.Sheets.{Adds, PutsLines, Joins, Puts}
@@ -57,6 +58,20 @@ letters_more f rest {all} {first} {now} {next} some so_far more =
     let Q : List ℕ → Type 0 = λ x. Completes first all now (flat_map f x) in
     completes_more first now next all (f (get_or rest 0 0)) (flat_map f (drop 1 rest))
     (subst Q (drop_more rest 0 0 some) so_far) more
+
+-- the first n are added as they are, and then those up to the m-th
+pub plain_longer : (f : ℕ → List ℕ) (text : List ℕ) (n m : ℕ) → n ≤ m
+    → flat_map f (take n text) ≡ take n text
+    → flat_map f (slice_range text n m) ≡ slice_range text n m
+    → flat_map f (take m text) ≡ take m text
+plain_longer f text n m le front run =
+    let more : List ℕ = slice_range text n m in
+    let at : m ≡ n + (m - n) = omega (arith, le) in
+    let cut : take m text ≡ take n text ++ more =
+    ap (λ k. take k text) at ∙ take-add n (m - n) text
+    in
+    ap (flat_map f) cut ∙ flat_map-append f (take n text) more
+    ∙ ap (λ x. x ++ flat_map f more) front ∙ ap (λ x. take n text ++ x) run ∙ sym cut
 
 pub letters_done : (f : ℕ → List ℕ) (rest : List ℕ) {all : List ℕ} {first now : Sheet}
     → length rest ≡ 0 → Completes first all now (flat_map f rest) → Adds first all now

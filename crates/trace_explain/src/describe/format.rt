@@ -4,50 +4,94 @@ use crate::describe::names::{Names, TagRow, joined};
 use crate::write::ascii::{are_printable, is_text};
 use crate::write::sheet::Sheet;
 
-/// Whether this is the name of a format, or a set of bits. `names/tags.txt` says what each means.
-pub fn is_format(name: &str) -> bool {
-    matches!(
-        name,
-        "b" | "t"
-            | "n"
-            | "n3"
-            | "cn"
-            | "an"
-            | "date"
-            | "time"
-            | "uint"
-            | "aid"
-            | "cvm"
-            | "fd"
-            | "sfi"
-    ) || name.starts_with('=')
+/// How the value of an object is shown as words. `names/tags.txt` says what each means.
+#[derive(Clone, Copy)]
+pub enum Format {
+    /// Not at all: bytes, or a template.
+    Silent,
+    /// `n`, a number.
+    Number,
+    /// `n3`, the last digits of a number.
+    LastThree,
+    /// `cn`, digits with `F` behind them.
+    Padded,
+    /// `an`, a text.
+    Letters,
+    /// `date`.
+    Date,
+    /// `time`.
+    Time,
+    /// `uint`, a binary number.
+    Binary,
+    /// `aid`, an application identifier.
+    Aid,
+    /// `cvm`, a list of cardholder verification methods.
+    Methods,
+    /// `fd`, a file descriptor.
+    Descriptor,
+    /// `sfi`, a short EF identifier.
+    ShortFile,
+    /// A set of bits, by its name as a number.
+    Bits(u64),
+}
+
+/// The formats with a name of their own.
+static FORMATS: [(&str, Format); 13] = [
+    ("b", Format::Silent),
+    ("t", Format::Silent),
+    ("n", Format::Number),
+    ("n3", Format::LastThree),
+    ("cn", Format::Padded),
+    ("an", Format::Letters),
+    ("date", Format::Date),
+    ("time", Format::Time),
+    ("uint", Format::Binary),
+    ("aid", Format::Aid),
+    ("cvm", Format::Methods),
+    ("fd", Format::Descriptor),
+    ("sfi", Format::ShortFile),
+];
+
+/// The format with this name. `=SET` is a set of bits.
+pub fn format_of(name: &str) -> Option<Format> {
+    if let Some(set) = name.strip_prefix('=') {
+        return Some(Format::Bits(joined(0, set.as_bytes())));
+    }
+    for (other, format) in &FORMATS {
+        if *other == name {
+            return Some(*format);
+        }
+    }
+    None
 }
 
 /// Adds the name of a row, and the value in words if its format has any.
-pub fn push_named(text: &mut Sheet, names: &Names, row: TagRow, value: &[u8]) {
+pub fn push_named(text: &mut Sheet, names: &Names, row: &TagRow, value: &[u8]) {
     text.push_str(names.name(row));
-    push_words(text, names, row, value);
+    push_words(text, names, row.format, value);
 }
 
-/// Adds a value in words if the format of its row has any. A value that is not of the format has
-/// none. Separators precede them if there is a name.
-pub fn push_words(text: &mut Sheet, names: &Names, row: TagRow, value: &[u8]) {
-    let format = names.format(row);
-    if let Some(set) = format.strip_prefix('=') {
-        return names.push_bits(text, set, value, ": ");
-    }
+/// Adds a value in words if this format has any. A value that is not of the format has none.
+/// Separators precede them if there is a name.
+pub fn push_words(text: &mut Sheet, names: &Names, format: Format, value: &[u8]) {
     match format {
-        "an" => push_letters(text, value),
-        "cvm" => push_methods(text, names, value),
-        "fd" => push_descriptor(text, names, value),
-        "sfi" => push_short_file(text, value),
-        "uint" => push_binary(text, value),
-        "b" | "t" => {}
-        _ => {
-            let mut digits = text.empty();
-            digits.push_hex(value);
-            push_digits(text, names, format, digits.as_str());
+        Format::Silent => {}
+        Format::Number => {
+            if let Some(number) = decimal(value) {
+                push_number(text, " ", number);
+            }
         }
+        Format::LastThree => push_last_three(text, value),
+        Format::Padded => push_padded(text, value),
+        Format::Letters => push_letters(text, value),
+        Format::Date => push_date(text, value),
+        Format::Time => push_time(text, value),
+        Format::Binary => push_binary(text, value),
+        Format::Aid => push_aid(text, names, value),
+        Format::Methods => push_methods(text, names, value),
+        Format::Descriptor => push_descriptor(text, names, value),
+        Format::ShortFile => push_short_file(text, value),
+        Format::Bits(set) => names.push_bits(text, set, value, ": "),
     }
 }
 
@@ -58,24 +102,34 @@ pub fn separate(text: &mut Sheet, separator: &str) {
     }
 }
 
-/// Adds a value by its hexadecimal digits.
-fn push_digits(text: &mut Sheet, names: &Names, format: &str, digits: &str) {
-    match (format, digits.parse::<u64>()) {
-        ("n", Ok(number)) => push_number(text, " ", number),
-        ("n3", Ok(number)) => {
-            separate(text, " ");
-            write!(text, "{:03}", number % 1000);
+/// The number that the hexadecimal digits of a value are, if they are decimal ones and some, and
+/// it has 64 bits.
+fn decimal(value: &[u8]) -> Option<u64> {
+    let mut number: Option<u64> = None;
+    for byte in value {
+        let (high, low) = (byte >> 4, byte & 0x0F);
+        if high > 9 || low > 9 {
+            return None;
         }
-        ("cn", _) => push_padded(text, digits),
-        ("date", _) => push_date(text, digits),
-        ("time", _) => push_time(text, digits),
-        ("aid", _) => {
-            if let Some(name) = names.aid(digits) {
-                separate(text, ", ");
-                text.push_str(name);
-            }
-        }
-        _ => {}
+        let both = u64::from(high) * 10 + u64::from(low);
+        number = Some(number.unwrap_or(0).checked_mul(100)?.checked_add(both)?);
+    }
+    number
+}
+
+/// Adds the last three decimal digits.
+fn push_last_three(text: &mut Sheet, value: &[u8]) {
+    if let Some(number) = decimal(value) {
+        separate(text, " ");
+        write!(text, "{:03}", number % 1000);
+    }
+}
+
+/// Adds the name of an application identifier, if it has one.
+fn push_aid(text: &mut Sheet, names: &Names, value: &[u8]) {
+    if let Some(name) = names.aid(value) {
+        separate(text, ", ");
+        text.push_str(name);
     }
 }
 
@@ -94,7 +148,10 @@ fn push_binary(text: &mut Sheet, value: &[u8]) {
 }
 
 /// Adds decimal digits, if at least one `F` follows them.
-fn push_padded(text: &mut Sheet, digits: &str) {
+fn push_padded(text: &mut Sheet, value: &[u8]) {
+    let mut digits = text.empty();
+    digits.push_hex(value);
+    let digits = digits.as_str();
     let number = digits.trim_end_matches('F');
     let is_well = !number.is_empty() && number.len() < digits.len();
     if is_well && number.as_bytes().iter().all(|digit| *digit <= b'9') {
@@ -119,8 +176,8 @@ fn push_letters(text: &mut Sheet, value: &[u8]) {
 }
 
 /// Adds a date. Years from 50 on are those before 2000 (EMV 4.3, Book 4, 6.7.3).
-fn push_date(text: &mut Sheet, digits: &str) {
-    let Some((year, month, day)) = three_pairs(digits) else {
+fn push_date(text: &mut Sheet, value: &[u8]) {
+    let Some((year, month, day)) = three_pairs(value) else {
         return;
     };
     let century = if year < 50 { 20 } else { 19 };
@@ -131,8 +188,8 @@ fn push_date(text: &mut Sheet, digits: &str) {
 }
 
 /// Adds a time of the day.
-fn push_time(text: &mut Sheet, digits: &str) {
-    if let Some((hour, minute, second)) = three_pairs(digits)
+fn push_time(text: &mut Sheet, value: &[u8]) {
+    if let Some((hour, minute, second)) = three_pairs(value)
         && hour < 24
         && minute < 60
         && second < 60
@@ -143,10 +200,17 @@ fn push_time(text: &mut Sheet, digits: &str) {
 }
 
 /// The three numbers of two decimal digits each.
-fn three_pairs(digits: &str) -> Option<(u8, u8, u8)> {
-    let pair = |from: usize, to: usize| digits.get(from..to)?.parse::<u8>().ok();
-    let pairs = (pair(0, 2)?, pair(2, 4)?, pair(4, 6)?);
-    (digits.len() == 6).then_some(pairs)
+fn three_pairs(value: &[u8]) -> Option<(u64, u64, u64)> {
+    match value {
+        [first, second, third] => {
+            Some((
+                decimal(&[*first])?,
+                decimal(&[*second])?,
+                decimal(&[*third])?,
+            ))
+        }
+        _ => None,
+    }
 }
 
 /// Adds the amounts X and Y, if not 0, and the rules (EMV 4.3, Book 3, 10.5).
@@ -158,7 +222,7 @@ fn push_methods(text: &mut Sheet, names: &Names, value: &[u8]) {
     push_amount(text, x == 0, "Y", y);
     for (place, rule) in rules.chunks(2).enumerate() {
         let is_first = place == 0 && x == 0 && y == 0;
-        names.push_bits(text, "cvm", rule, before_part(is_first));
+        names.push_bits(text, joined(0, b"cvm"), rule, before_part(is_first));
     }
 }
 
@@ -177,7 +241,7 @@ fn before_part(is_first: bool) -> &'static str {
 
 /// Adds the kind of a file, and its records (ISO/IEC 7816-4, 5.3.3.2).
 fn push_descriptor(text: &mut Sheet, names: &Names, value: &[u8]) {
-    names.push_bits(text, "fd", value, ": ");
+    names.push_bits(text, joined(0, b"fd"), value, ": ");
     let [_, _, size @ ..] = value else {
         return;
     };

@@ -1,6 +1,6 @@
 //! The names of tags, application identifiers and bits, from the rows of tables.
 
-use crate::describe::format::{is_format, separate};
+use crate::describe::format::{Format, format_of, separate};
 use crate::read::forms::FormsFault;
 use crate::tables::{AIDS, BITS, TAGS};
 use crate::write::ascii::are_printable;
@@ -8,11 +8,14 @@ use crate::write::sheet::Sheet;
 use std::alloc::{AllocError, Global};
 use tlv_core::Tag;
 
-/// The number of lists of tags, one for each value of the last bits of a tag.
-const LISTS: u64 = 64;
+/// The number of lists of each table, one for each value of the last byte of a key.
+const LISTS: u64 = 256;
 
-/// The place of the last digit of the provider in an application identifier. Most differ there.
-const RID: usize = 9;
+/// The place of the last byte of the provider in an application identifier. Most differ there.
+const RID: usize = 4;
+
+/// The most bytes of an application identifier.
+const AID: usize = 16;
 
 /// The tags of the templates around an object, as numbers whose digits are theirs: that of the
 /// innermost, and that behind the next one's. Both are 0 without a template.
@@ -55,7 +58,16 @@ pub struct TagRow {
     place: Option<u64>,
     /// The least and the greatest size of its value.
     sizes: (usize, usize),
-    format: Words,
+    /// How the value is shown as words.
+    pub format: Format,
+    name: Words,
+}
+
+/// A row of an application identifier: its bytes, and how many of them it has.
+#[derive(Clone, Copy)]
+struct AidRow {
+    bytes: [u8; AID],
+    size: usize,
     name: Words,
 }
 
@@ -63,16 +75,16 @@ pub struct TagRow {
 #[derive(Clone, Copy)]
 struct BitRow(u64, usize, u8, u8, Words);
 
-/// All tables.
+/// All tables. Their rows are in lists, by the last bytes of their keys: tags, the providers of
+/// application identifiers, and the names of sets.
 #[derive(Drop)]
 pub struct Names {
     /// Their text. It begins with the rows of a file, which have this size.
     text: String,
     own: usize,
     tags: Vec<Vec<TagRow>>,
-    /// The digits and the name of each application identifier.
-    aids: Vec<(Words, Words)>,
-    bits: Vec<BitRow>,
+    aids: Vec<Vec<AidRow>>,
+    bits: Vec<Vec<BitRow>>,
 }
 
 impl Names {
@@ -101,9 +113,9 @@ impl Names {
             text.push_str("\n")?;
             text.push_str(table)?;
         }
-        for _ in 0..LISTS {
-            names.tags.push(Vec::new(alloc)).map_err(AllocError::from)?;
-        }
+        names.tags = lists(alloc)?;
+        names.aids = lists(alloc)?;
+        names.bits = lists(alloc)?;
         let mut begin: usize = 0;
         for (place, line) in text.as_str().split('\n').enumerate() {
             let end = begin.saturating_add(line.len());
@@ -153,25 +165,20 @@ impl Names {
     }
 
     /// The row of an object at this place, with a value of this size.
-    pub fn tag(&self, tag: Tag, place: Place, size: usize) -> Option<TagRow> {
+    pub fn tag(&self, tag: Tag, place: Place, size: usize) -> Option<&TagRow> {
         let tag = joined(0, tag.bytes());
         for row in self.tags.get(list_of(tag))? {
             let is_of_size = row.sizes.0 <= size && size <= row.sizes.1;
             if row.tag == tag && is_of_size && place.is(row.place) {
-                return Some(*row);
+                return Some(row);
             }
         }
         None
     }
 
     /// The name of a row.
-    pub fn name(&self, row: TagRow) -> &str {
+    pub fn name(&self, row: &TagRow) -> &str {
         self.words(row.name)
-    }
-
-    /// The format of a row.
-    pub fn format(&self, row: TagRow) -> &str {
-        self.words(row.format)
     }
 
     /// Words of a row.
@@ -179,28 +186,26 @@ impl Names {
         self.text.as_str().get(words.0..words.1).unwrap_or("")
     }
 
-    /// The name of the longest application identifier that begins the one with these digits.
-    pub fn aid(&self, digits: &str) -> Option<&str> {
-        let text = self.text.as_bytes();
-        let last = digits.as_bytes().get(RID)?;
-        let mut best = ("", None);
-        for (aid, name) in &self.aids {
-            if text.get(aid.0.saturating_add(RID)) != Some(last) {
-                continue;
-            }
-            let aid = self.words(*aid);
-            if best.0.len() < aid.len() && digits.starts_with(aid) {
-                best = (aid, Some(self.words(*name)));
+    /// The name of the longest application identifier that begins this one.
+    pub fn aid(&self, value: &[u8]) -> Option<&str> {
+        let key = u64::from(*value.get(RID)?);
+        let mut best: Option<&AidRow> = None;
+        for row in self.aids.get(list_of(key))? {
+            let is_longer = best.is_none_or(|it| it.size < row.size);
+            if is_longer && value.starts_with(row.bytes.get(..row.size)?) {
+                best = Some(row);
             }
         }
-        best.1
+        best.map(|row| self.words(row.name))
     }
 
     /// Adds the words for the bits of a value, with commas between, after a separator.
-    pub fn push_bits(&self, text: &mut Sheet, set: &str, value: &[u8], separator: &str) {
+    pub fn push_bits(&self, text: &mut Sheet, set: u64, value: &[u8], separator: &str) {
         let mut separator = separator;
-        let set = joined(0, set.as_bytes());
-        for BitRow(other, place, mask, bits, words) in &self.bits {
+        let Some(rows) = self.bits.get(list_of(set)) else {
+            return;
+        };
+        for BitRow(other, place, mask, bits, words) in rows {
             let byte = value.get(*place).copied();
             if *other == set && byte.is_some_and(|byte| byte & *mask == *bits) {
                 separate(text, separator);
@@ -211,18 +216,29 @@ impl Names {
     }
 }
 
-/// Takes a row, if it is one.
-fn taken<T: Drop>(rows: &mut Vec<T>, row: Option<T>) -> Result<bool, AllocError> {
-    let Some(row) = row else {
-        return Ok(false);
-    };
-    rows.push(row)?;
-    Ok(true)
+/// Empty lists.
+fn lists<T: Drop>(alloc: Global) -> Result<Vec<Vec<T>>, AllocError> {
+    let mut lists = Vec::new(alloc);
+    for _ in 0..LISTS {
+        lists.push(Vec::new(alloc))?;
+    }
+    Ok(lists)
 }
 
-/// The place of the list with a tag.
-fn list_of(tag: u64) -> usize {
-    usize::try_from(tag % LISTS).unwrap_or(0)
+/// Takes a row with its key, if it is one.
+fn taken<T: Drop>(lists: &mut Vec<Vec<T>>, row: Option<(u64, T)>) -> Result<bool, AllocError> {
+    if let Some((key, row)) = row
+        && let Some(rows) = lists.get_mut(list_of(key))
+    {
+        rows.push(row)?;
+        return Ok(true);
+    }
+    Ok(false)
+}
+
+/// The place of the list with this key.
+fn list_of(key: u64) -> usize {
+    usize::try_from(key % LISTS).unwrap_or(0)
 }
 
 /// The words before this end. `None` if they are not printable ASCII.
@@ -252,17 +268,16 @@ fn tag_row(row: &str, end: usize) -> Option<(TagRow, &str)> {
     let (tag, _, row) = cut_word(row, end)?;
     let (places, _, row) = cut_word(row, end)?;
     let (sizes, _, row) = cut_word(row, end)?;
-    let (word, format, name) = cut_word(row, end)?;
+    let (format, _, name) = cut_word(row, end)?;
     let is_place = |word| matches!(word, "*" | ".") || is_hex(word);
-    let is_well = places.split(',').all(is_place) && is_format(word);
     let row = TagRow {
         tag: tag_of(tag)?,
         place: None,
         sizes: sizes_of(sizes)?,
-        format,
+        format: format_of(format)?,
         name: words_before(end, name)?,
     };
-    is_well.then_some((row, places))
+    places.split(',').all(is_place).then_some((row, places))
 }
 
 /// Whether a word is hexadecimal digits in capitals, two for each byte.
@@ -293,25 +308,36 @@ fn sizes_of(sizes: &str) -> Option<(usize, usize)> {
     Some((least.parse().ok()?, most.parse().ok()?))
 }
 
-/// Reads the row of an application identifier of 5 to 16 bytes.
-fn aid_row(row: &str, end: usize) -> Option<(Words, Words)> {
-    let (digits, aid, name) = cut_word(row, end)?;
-    let is_well = (10..=32).contains(&digits.len()) && is_hex(digits);
-    is_well.then_some((aid, words_before(end, name)?))
+/// Reads the row of an application identifier of 5 to 16 bytes. Its key is the last byte of its
+/// provider.
+fn aid_row(row: &str, end: usize) -> Option<(u64, AidRow)> {
+    let (digits, _, name) = cut_word(row, end)?;
+    let name = words_before(end, name)?;
+    if !is_hex(digits) {
+        return None;
+    }
+    let size = digits.len() / 2;
+    let mut bytes = [0; AID];
+    let aid = bytes.get_mut(..size)?;
+    hex::decode_to_slice(digits.as_bytes(), aid).ok()?;
+    let key = *bytes.get(..size)?.get(RID)?;
+    Some((u64::from(key), AidRow { bytes, size, name }))
 }
 
-/// Reads a row of bits.
-fn bit_row(row: &str, end: usize) -> Option<BitRow> {
+/// Reads a row of bits. Its key is its set.
+fn bit_row(row: &str, end: usize) -> Option<(u64, BitRow)> {
     let (set, row) = row.split_once(' ')?;
     let (place, row) = row.split_once(' ')?;
     let (bits, words) = row.split_once(' ')?;
     let (mask, value) = bits.split_once('=').unwrap_or((bits, bits));
+    let set = joined(0, set.as_bytes());
     let place: usize = place.parse().ok()?;
-    Some(BitRow(
-        joined(0, set.as_bytes()),
+    let row = BitRow(
+        set,
         place.checked_sub(1)?,
         u8::from_str_radix(mask, 16).ok()?,
         u8::from_str_radix(value, 16).ok()?,
         words_before(end, words)?,
-    ))
+    );
+    Some((set, row))
 }

@@ -23,16 +23,16 @@ pub fn is_text(bytes: &[u8]) -> bool
     bytes.len() >= LEAST && are_printable(bytes)
 }
 
-/// Whether each of the bytes is printable ASCII.
+/// Whether each of the bytes is printable ASCII. It looks at all: a processor does that for several
+/// at once.
 pub fn are_printable(bytes: &[u8]) -> bool
     ensures { result ≡ are_printable bytes.now }
 {
+    let mut are = true;
     for &byte in bytes {
-        if !matches!(byte, b' '..=b'~') {
-            return false;
-        }
+        are &= matches!(byte, b' '..=b'~');
     }
-    true
+    are
 }
 
 /// Adds bytes as lines of digits, 40 bytes in each, with LF after each line.

@@ -120,7 +120,7 @@ fn push_names(sheet: &mut Sheet, mask: &Mask, place: Place, object: &Obj<'_>, wo
     push_words(sheet, ",\"name\":\"", words);
     words.clear();
     if let Some(row) = row {
-        format::push_words(words, &mask.names, row, value);
+        format::push_words(words, &mask.names, row.format, value);
     }
     push_words(sheet, ",\"words\":\"", words);
 }

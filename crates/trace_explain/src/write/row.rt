@@ -9,8 +9,8 @@ use crate::write::sheet::Sheet;
 /// What precedes each further line of a row of text.
 pub const ROW_INDENT: &str = "               ";
 
-/// The most bytes that `are_plain` looks at.
-const RUN: usize = 128;
+/// The number of bytes of a run.
+const RUN: usize = 16;
 
 /// Adds the start of a row: the sign of its end, if it is of one, and its label.
 pub fn push_before(sheet: &mut Sheet, side: Side, label: &str)
@@ -74,12 +74,7 @@ fn plain_front(medium: Medium, text: &[u8]) -> (&str, &[u8])
     ensures cut { text.now ≡ result.0.now ++ result.1.now }
     ensures plain { (indent : List ℕ) → letters medium indent result.0.now ≡ result.0.now }
 {
-    let (run, behind) = text.split_at(text.len().min(RUN));
-    let (front, others) = if are_plain(medium, run) {
-        (run, behind)
-    } else {
-        text.split_at(plain_len(medium, text))
-    };
+    let (front, others) = text.split_at(plain_len(medium, text));
     match str::from_utf8(front) {
         Ok(front) => (front, others),
         Err(_) => ("", text),
@@ -92,7 +87,7 @@ fn plain_len(medium: Medium, text: &[u8]) -> usize
     ensures plain { (indent : List ℕ) →
         letters medium indent (take result text.now) ≡ take result text.now }
 {
-    for place in 0..text.len() {
+    for place in plain_runs(medium, text)..text.len() {
         if !is_plain(medium, text[place]) {
             return place;
         }
@@ -100,8 +95,24 @@ fn plain_len(medium: Medium, text: &[u8]) -> usize
     text.len()
 }
 
-/// Whether `push_letter` adds these bytes as they are. It looks at all: a processor does that for
-/// several at once.
+/// The number of such bytes in whole runs, up to the first run with another byte.
+fn plain_runs(medium: Medium, text: &[u8]) -> usize
+    ensures within { result ≤ length text.now }
+    ensures plain { (indent : List ℕ) →
+        letters medium indent (take result text.now) ≡ take result text.now }
+{
+    let mut len = 0;
+    'runs: while text.len() - len >= RUN {
+        if !are_plain(medium, &text[len..len + RUN]) {
+            return len;
+        }
+        len += RUN;
+    }
+    len
+}
+
+/// Whether `push_letter` adds these bytes as they are. It looks at all of a run: a processor does
+/// that for several bytes at once.
 fn are_plain(medium: Medium, bytes: &[u8]) -> bool
     ensures { result ≡ true → (indent : List ℕ) → letters medium indent bytes.now ≡ bytes.now }
 {

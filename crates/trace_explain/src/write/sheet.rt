@@ -14,6 +14,9 @@ use std::fmt;
 /// The hexadecimal digits.
 const DIGITS: &[u8; 16] = b"0123456789ABCDEF";
 
+/// The room for the words of an object. Most names fit in it.
+const ROOM: usize = 64;
+
 /// A text to which parts are added until memory runs out. Callers ask `is_whole` once, at the end.
 #[derive(Drop)]
 pub struct Sheet {
@@ -40,9 +43,11 @@ impl Sheet {
         }
     }
 
-    /// Another text without anything, for words that are added later.
+    /// Another text without anything, with room for words that are added later.
     pub fn empty(&self) -> Sheet {
-        Sheet::new(self.alloc, self.layout)
+        let mut sheet = Sheet::new(self.alloc, self.layout);
+        sheet.is_cut = sheet.text.reserve(ROOM).is_err();
+        sheet
     }
 
     /// The layout.

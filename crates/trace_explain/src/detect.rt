@@ -4,7 +4,7 @@ use crate::describe::mask::Mask;
 use crate::explain::explain;
 use crate::read::form_row::{Found, Rows, Saying, read_rows};
 use crate::read::forms::{FORMS, Forms, FormsFault};
-use crate::read::reading::Options;
+use crate::read::reading::{Options, Reading};
 use crate::read::time::cut_time;
 use crate::write::layout::{Layout, Medium};
 use std::alloc::{AllocError, Global};
@@ -53,53 +53,70 @@ pub fn forms_of(
     head: &[u8],
 ) -> Result<Vec<&'static str>, FormsFault> {
     let lines = whole_lines(head);
-    let mut found = Vec::new(alloc);
     let forms = Forms::of(alloc, FORMS)?;
-    let reading = options.reading(alloc, &forms)?;
-    let begun = lines_read(alloc, &reading.rows, lines)?;
-    let mut most = read_by(alloc, options, &forms, lines, 1)?.max(begun.saturating_sub(1));
+    let (count, is_read) = read_by(alloc, options, &forms, lines, 1)?;
+    let mut most = count.saturating_sub(usize::from(!is_read));
+    let mut found = Vec::new(alloc);
     for form in &forms.forms {
-        if !form.is_whole {
-            continue;
-        }
-        let tried = Options {
-            form: Some(form.name),
-            ..*options
-        };
-        let least = most.saturating_add(usize::from(found.is_empty()));
-        let count = read_by(alloc, &tried, &forms, lines, least)?;
-        if count > most {
-            found.clear();
-        }
-        if count > 0 {
-            most = count;
-            found.push(form.name).map_err(AllocError::from)?;
+        if form.is_whole {
+            try_form(
+                alloc, options, &forms, lines, form.name, &mut most, &mut found,
+            )?;
         }
     }
     Ok(found)
 }
 
-/// Returns how many of these lines have bytes or a reset in a form; 0 if these are fewer than
-/// `least`, or the lines have a fault in it.
+/// Adds a form to those that read `most` lines if it reads as many, or in their place if it reads
+/// more.
+fn try_form(
+    alloc: Global,
+    options: &Options<'_>,
+    forms: &Forms<'static>,
+    lines: &[u8],
+    name: &'static str,
+    most: &mut usize,
+    found: &mut Vec<&'static str>,
+) -> Result<(), FormsFault> {
+    let tried = Options {
+        form: Some(name),
+        ..*options
+    };
+    let least = most.saturating_add(usize::from(found.is_empty()));
+    let (count, is_read) = read_by(alloc, &tried, forms, lines, least)?;
+    if !is_read {
+        return Ok(());
+    }
+    if count > *most {
+        found.clear();
+    }
+    *most = count;
+    Ok(found.push(name)?)
+}
+
+/// Returns how many of these lines have bytes or a reset in a form, and whether it reads them
+/// without a fault. It does not if these are fewer than `least`.
 fn read_by(
     alloc: Global,
     options: &Options<'_>,
     forms: &Forms<'_>,
-    head: &[u8],
+    lines: &[u8],
     least: usize,
-) -> Result<usize, FormsFault> {
+) -> Result<(usize, bool), FormsFault> {
     let reading = options.reading(alloc, forms)?;
-    let count = lines_read(alloc, &reading.rows, head)?;
-    if count < least {
-        return Ok(0);
-    }
+    let count = lines_read(alloc, &reading.rows, lines)?;
+    Ok((count, count >= least && is_read(alloc, reading, lines)))
+}
+
+/// Whether these lines have no fault.
+fn is_read(alloc: Global, reading: Reading, lines: &[u8]) -> bool {
+    let mut left = lines;
     let mut text = Vec::new(alloc);
-    let mut left = head;
     let mask = Mask::none(alloc);
-    let outcome = explain(
+    explain(
         alloc, LAYOUT, "", mask, false, reading, &mut left, &mut text,
-    );
-    Ok(if outcome.is_ok() { count } else { 0 })
+    )
+    .is_ok()
 }
 
 /// Returns how many of these lines have bytes or a reset.

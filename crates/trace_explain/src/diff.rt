@@ -28,25 +28,13 @@ pub enum DiffFault {
     Trace(&'static str, ExplainFault),
     /// The forms can't be read.
     #[error("{0}")]
-    Forms(FormsFault),
+    Forms(#[from] FormsFault),
     /// The writer failed. How much it took is unknown.
     #[error("write fault")]
     Write,
     /// Memory ran out.
     #[error("out of memory")]
-    OutOfMemory,
-}
-
-impl From<FormsFault> for DiffFault {
-    fn from(fault: FormsFault) -> DiffFault {
-        DiffFault::Forms(fault)
-    }
-}
-
-impl From<AllocError> for DiffFault {
-    fn from(_error: AllocError) -> DiffFault {
-        DiffFault::OutOfMemory
-    }
+    OutOfMemory(#[from] AllocError),
 }
 
 #[derive(Drop)]
@@ -129,29 +117,8 @@ fn compare<R: Read, S: Read>(
     output: &mut Output,
 ) -> Result<bool, DiffFault> {
     for number in 1..u64::MAX {
-        let before = number - 1;
-        let unit = if before == 1 { "TPDU" } else { "TPDUs" };
-        let unlike = match (a.front()?, b.front()?) {
-            (None, None) => {
-                writeln!(words, "alike: {before} {unit}");
-                return Ok(true);
-            }
-            (Some(kept), None) => {
-                writeln!(words, "B ends after {before} {unit}, and A goes on:");
-                push_side(output, "", "A:\n", kept)
-            }
-            (None, Some(kept)) => {
-                writeln!(words, "A ends after {before} {unit}, and B goes on:");
-                push_side(output, "", "B:\n", kept)
-            }
-            (Some(one), Some(other)) if differ(words, number, &one.tpdu, &other.tpdu) => {
-                push_side(output, "A:\n", "A:\n", one);
-                push_side(output, "B:\n", "B:\n", other)
-            }
-            (Some(_), Some(_)) => false,
-        };
-        if unlike {
-            return Ok(false);
+        if let Some(alike) = alike(a.front()?, b.front()?, number, words, output) {
+            return Ok(alike);
         }
         a.passed = a.passed.saturating_add(1);
         b.passed = b.passed.saturating_add(1);
@@ -159,14 +126,51 @@ fn compare<R: Read, S: Read>(
     Ok(true)
 }
 
+/// Compares the TPDUs with this number. Returns whether the traces are alike; `None` as long as
+/// that is unknown.
+fn alike(
+    a: Option<&Kept>,
+    b: Option<&Kept>,
+    number: u64,
+    words: &mut Sheet,
+    output: &mut Output,
+) -> Option<bool> {
+    match (a, b) {
+        (None, None) => push_before(words, "alike:", number, ""),
+        (Some(kept), None) => {
+            push_before(words, "B ends after", number, ", and A goes on:");
+            push_side(output, "", "A:\n", kept);
+        }
+        (None, Some(kept)) => {
+            push_before(words, "A ends after", number, ", and B goes on:");
+            push_side(output, "", "B:\n", kept);
+        }
+        (Some(one), Some(other)) => {
+            if !differ(words, number, &one.tpdu, &other.tpdu) {
+                return None;
+            }
+            push_side(output, "A:\n", "A:\n", one);
+            push_side(output, "B:\n", "B:\n", other);
+        }
+    }
+    Some(a.is_none() && b.is_none())
+}
+
+/// Adds a line with the number of TPDUs before this one.
+fn push_before(words: &mut Sheet, begin: &str, number: u64, end: &str) {
+    let before = number.saturating_sub(1);
+    let unit = if before == 1 { "TPDU" } else { "TPDUs" };
+    writeln!(words, "{begin} {before} {unit}{end}");
+}
+
 /// Adds a TPDU of one trace, after the name of that. On a page its box is open, and has no name in
-/// links. Returns true: the traces differ.
-fn push_side(output: &mut Output, in_text: &str, on_page: &str, kept: &Kept) -> bool {
+/// links.
+fn push_side(output: &mut Output, in_text: &str, on_page: &str, kept: &Kept) {
     let text = kept.text.as_str();
     if !output.page.is_html() {
         output.sheet.push_str(in_text);
         output.sheet.push_str(text);
-        return true;
+        return;
     }
     output.page.note_line(on_page);
     output.join();
@@ -175,7 +179,6 @@ fn push_side(output: &mut Output, in_text: &str, on_page: &str, kept: &Kept) -> 
     output.sheet.push_str(begin);
     output.sheet.push_str(" open><summary>");
     output.sheet.push_str(rest);
-    true
 }
 
 /// Whether two TPDUs differ. Reports in what they differ.

@@ -175,13 +175,7 @@ pub enum FormsFault {
     Name(usize),
     /// Memory ran out.
     #[error("out of memory")]
-    OutOfMemory,
-}
-
-impl From<AllocError> for FormsFault {
-    fn from(_error: AllocError) -> FormsFault {
-        FormsFault::OutOfMemory
-    }
+    OutOfMemory(#[from(alloc)] AllocError),
 }
 
 impl<'t> Forms<'t> {

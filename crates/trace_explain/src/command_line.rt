@@ -148,78 +148,85 @@ fn invalid(alloc: Global, text: &str) -> Result<Error, AllocError> {
 
 /// The program with its options. `--form` takes the names in `forms`.
 fn command<'a>(alloc: Global, forms: &'a [&'a str]) -> Result<Command<'a>, AllocError> {
+    Command::new(alloc, "trace_explain")
+        .version(help::VERSION)
+        .about(help::PROGRAM)
+        .after_help(help::TRACE)
+        .args(options(alloc, forms)?)
+}
+
+/// The files and the options.
+fn options<'a>(alloc: Global, forms: &'a [&'a str]) -> Result<Vec<Arg<'a>>, AllocError> {
     let mut options = Vec::new(alloc);
     let files = Arg::new(alloc, "FILE").action(ArgAction::Append);
     options.push(files.num_args(0..).help(help::FILE))?;
     for row in &OPTIONS {
         options.push(option(alloc, row, forms)?)?;
     }
-    Command::new(alloc, "trace_explain")
-        .version(help::VERSION)
-        .about(help::PROGRAM)
-        .after_help(help::TRACE)
-        .args(options)
+    Ok(options)
 }
 
-/// An option's name, its help, what it takes, and the options that it excludes.
-struct Row(&'static str, &'static str, Takes, &'static [&'static str]);
+/// An option's name, its help, and what it takes.
+struct Row(&'static str, &'static str, Takes);
 
 /// What an option takes.
 #[derive(Clone, Copy)]
 enum Takes {
     Nothing,
+    /// Two paths.
     Paths,
+    /// Tags, or nothing.
     Tags,
+    /// The name of a form.
     Form,
-    File,
-    Instructions,
-    Protocol,
-    Edc,
-    Title,
+    /// One of these values.
+    One(&'static str, &'static [&'static str]),
+    /// Any value.
+    Any(&'static str),
 }
-
-/// What `--protocol` takes.
-static PROTOCOLS: [&str; 1] = ["t1"];
-
-/// What `--edc` takes.
-static EDCS: [&str; 2] = ["lrc", "crc"];
 
 /// The options, in the order of the help.
 static OPTIONS: [Row; 19] = [
-    Row(
-        "diff",
-        help::DIFF,
-        Takes::Paths,
-        &["json", "commands", "summary", "FILE"],
-    ),
-    Row("html", help::HTML, Takes::Nothing, &["json"]),
-    Row("title", help::TITLE, Takes::Title, &[]),
-    Row("json", help::JSON, Takes::Nothing, &[]),
-    Row("commands", help::COMMANDS, Takes::Nothing, &[]),
-    Row("mask", help::MASK, Takes::Tags, &[]),
-    Row("resume", help::RESUME, Takes::Nothing, &[]),
-    Row("form", help::FORM, Takes::Form, &[]),
-    Row(
-        "form-file",
-        help::FORM_FILE,
-        Takes::File,
-        &["form", "unsigned"],
-    ),
-    Row("names-file", help::NAMES_FILE, Takes::File, &[]),
-    Row("list-names", help::LIST_NAMES, Takes::Nothing, &[]),
-    Row("swap", help::SWAP, Takes::Nothing, &[]),
-    Row(
-        "unsigned",
-        help::UNSIGNED,
-        Takes::Nothing,
-        &["form", "swap"],
-    ),
-    Row("to-card", help::TO_CARD, Takes::Instructions, &[]),
-    Row("from-card", help::FROM_CARD, Takes::Instructions, &[]),
-    Row("summary", help::SUMMARY, Takes::Nothing, &[]),
-    Row("protocol", help::PROTOCOL, Takes::Protocol, &["tpdu"]),
-    Row("edc", help::EDC, Takes::Edc, &[]),
-    Row("tpdu", help::TPDU, Takes::Nothing, &["resume", "unsigned"]),
+    Row("diff", help::DIFF, Takes::Paths),
+    Row("html", help::HTML, Takes::Nothing),
+    Row("title", help::TITLE, Takes::Any("TEXT")),
+    Row("json", help::JSON, Takes::Nothing),
+    Row("commands", help::COMMANDS, Takes::Nothing),
+    Row("mask", help::MASK, Takes::Tags),
+    Row("resume", help::RESUME, Takes::Nothing),
+    Row("form", help::FORM, Takes::Form),
+    Row("form-file", help::FORM_FILE, Takes::Any("FILE")),
+    Row("names-file", help::NAMES_FILE, Takes::Any("FILE")),
+    Row("list-names", help::LIST_NAMES, Takes::Nothing),
+    Row("swap", help::SWAP, Takes::Nothing),
+    Row("unsigned", help::UNSIGNED, Takes::Nothing),
+    Row("to-card", help::TO_CARD, Takes::Any("INS")),
+    Row("from-card", help::FROM_CARD, Takes::Any("INS")),
+    Row("summary", help::SUMMARY, Takes::Nothing),
+    Row("protocol", help::PROTOCOL, Takes::One("T", &["t1"])),
+    Row("edc", help::EDC, Takes::One("EDC", &["lrc", "crc"])),
+    Row("tpdu", help::TPDU, Takes::Nothing),
+];
+
+/// An option's name, the options that it needs, and those that it excludes.
+struct Rule(
+    &'static str,
+    &'static [&'static str],
+    &'static [&'static str],
+);
+
+/// What options need and exclude.
+static RULES: [Rule; 10] = [
+    Rule("diff", &[], &["json", "commands", "summary", "FILE"]),
+    Rule("html", &[], &["json"]),
+    Rule("title", &["html"], &[]),
+    Rule("form-file", &[], &["form", "unsigned"]),
+    Rule("unsigned", &[], &["form", "swap"]),
+    Rule("to-card", &["unsigned"], &[]),
+    Rule("from-card", &["unsigned"], &[]),
+    Rule("protocol", &[], &["tpdu"]),
+    Rule("edc", &["protocol"], &[]),
+    Rule("tpdu", &[], &["resume", "unsigned"]),
 ];
 
 /// The option of a row.
@@ -228,50 +235,25 @@ fn option<'a>(
     row: &'static Row,
     forms: &'a [&'a str],
 ) -> Result<Arg<'a>, AllocError> {
-    let Row(name, help, takes, others) = row;
-    let mut option = taking(*takes, Arg::new(alloc, name).long(name).help(help), forms)?;
-    for other in *others {
-        option = option.conflicts_with(other)?;
+    let Row(name, help, takes) = row;
+    let option = taking(*takes, Arg::new(alloc, name).long(name).help(help), forms);
+    match RULES.iter().find(|rule| rule.0 == *name) {
+        Some(rule) => option.requires_all(rule.1)?.conflicts_with_all(rule.2),
+        None => Ok(option),
     }
-    Ok(option)
 }
 
 /// The option, which takes this.
-fn taking<'a>(takes: Takes, option: Arg<'a>, forms: &'a [&'a str]) -> Result<Arg<'a>, AllocError> {
+fn taking<'a>(takes: Takes, option: Arg<'a>, forms: &'a [&'a str]) -> Arg<'a> {
     match takes {
-        Takes::Nothing => Ok(option.action(ArgAction::SetTrue)),
-        Takes::Paths => Ok(option.value_names(["A", "B"].as_slice()).num_args(2..=2)),
-        Takes::Tags => Ok(
-            option
-                .value_name("TAGS")
-                .num_args(0..=1)
-                .default_missing_value(""),
-        ),
-        Takes::Form => Ok(
-            option
-                .action(ArgAction::Set)
-                .value_name("FORM")
-                .value_parser(forms),
-        ),
-        Takes::Protocol => Ok(
-            option
-                .action(ArgAction::Set)
-                .value_name("T")
-                .value_parser(PROTOCOLS.as_slice()),
-        ),
-        Takes::Edc => option
-            .action(ArgAction::Set)
-            .value_name("EDC")
-            .value_parser(EDCS.as_slice())
-            .requires_arg("protocol"),
-        Takes::File => Ok(option.action(ArgAction::Set).value_name("FILE")),
-        Takes::Title => option
-            .action(ArgAction::Set)
-            .value_name("TEXT")
-            .requires_arg("html"),
-        Takes::Instructions => option
-            .action(ArgAction::Set)
-            .value_name("INS")
-            .requires_arg("unsigned"),
+        Takes::Nothing => option.action(ArgAction::SetTrue),
+        Takes::Paths => option.value_names(["A", "B"].as_slice()).num_args(2..=2),
+        Takes::Tags => option
+            .value_name("TAGS")
+            .num_args(0..=1)
+            .default_missing_value(""),
+        Takes::Form => option.value_name("FORM").value_parser(forms),
+        Takes::One(name, all) => option.value_name(name).value_parser(all),
+        Takes::Any(name) => option.value_name(name),
     }
 }

@@ -29,7 +29,7 @@ use Rattle.command_card.specs.Carrying.{IsOwn}
 use Rattle.command_card.specs.Given.{Answers, GivenState, after_drop, settled, takes_data, with_answer}
 use Rattle.command_card.specs.Meaning.{Does}
 use Rattle.command_card.specs.State.{CardState}
-use Rattle.command_card.specs.View.{CardOf, MayReceive, MaySend, after_reset, prepared_in, standing_in}
+use Rattle.command_card.specs.View.{CardOf, MayReceive, MaySend, after_reset, new_card, prepared_in, standing_in}
 use Rattle.command_card.specs.Wanted.{IsWanted, MayTake, may_decide, wanted_by, wanted_for}
 use Rattle.card_c.specs.declared.card_side.CardSide.{CardSide}
 use Rattle.card_c.specs.declared.card_side.CardSide.TheVariants.{Own, OwnAtT1}
@@ -204,8 +204,8 @@ OwnSends room before room' n side code new =
 abbrev pub OwnReceivesAll : List ℕ → ℕ → OwnSide → ℤ → OwnSide → Type 0
 OwnReceivesAll bytes n own code new = (new ≡ record own { end = new.end })
     × Steps (IsTaken own_card) own.end (take n bytes) new.end
-    × (n ≡ length bytes → code ≡ gt_ok)
-    × (n < length bytes → (code ≡ line_code NotListening) × (listens new.end.stage ≡ false))
+    × (((n ≡ length bytes) × (code ≡ gt_ok))
+    ⊎ ((n < length bytes) × (code ≡ line_code NotListening) × (listens new.end.stage ≡ false)))
 
 abbrev pub OwnReceives : List ℕ → ℕ → ℕ → CardSide → ℤ → CardSide → Type 0
 OwnReceives bytes before n (Own own) code new = (next : OwnSide) × (new ≡ Own next)
@@ -229,12 +229,14 @@ OwnResets (Own own) code new = (next : OwnSide) × (new ≡ Own next)
     × OwnResetsOne own.end own.plans code next
 OwnResets side code new = (code ≡ gt_state) × (new ≡ side)
 
--- no plans, no response, and the events since its making: none
+-- no plans, no response, nothing pending, and the events since its making: none
 abbrev pub IsFresh : Directions → OwnSide → Type 0
 IsFresh directions own = (own.plans ≡ record { rest = []; kept = None })
     × (own.whole ≡ whole.Nothing) × (own.asked.items ≡ [])
-    × (own.end.stage ≡ Taking_header [])
-    × (own.end.card.app ≡ record { directions = directions; given = None; settled = true })
+    × (own.end ≡ record {
+      card = new_card (record { directions = directions; given = None; settled = true });
+      stage = Taking_header [];
+    })
     × OwnLed (own_card.standing own.end.card) [] own.end
     × OwnLedUnder (own_card.standing own.end.card) [] [] own.end
 

@@ -6,7 +6,7 @@ use Rattle.apdu_core.specs.CommandBytes.{Command, IsCommand, command_bytes}
 use Rattle.t0_core.specs.CardSide.{EndOf}
 use Rattle.t0_core.specs.CardTpdu.{rests}
 use Rattle.t0_core.specs.TpduBytes.{Asked, asked_in}
-use Rattle.command_card.specs.Wanted.{RespondsAs, wanted_by, wanted_for}
+use Rattle.command_card.specs.Wanted.{RespondsAs, forgotten_by, wanted_by, wanted_for}
 use Rattle.card_c.specs.declared.card_side.CardSide.{CardSide}
 use Rattle.card_c.specs.declared.card_side.CardSide.TheVariants.{Own}
 use Rattle.card_c.specs.declared.own_side.OwnSide.{OwnSide}
@@ -17,7 +17,7 @@ use Rattle.card_c.specs.declared.own_whole.Went.TheVariants.{Waits, Refused, Ove
 use Rattle.card_c.specs.Codes.{gt_ok, gt_state, gt_memory, gt_buffer, command_code}
 use Rattle.card_c.specs.Copying.{IsCopied}
 use Rattle.card_c.specs.ExchangeCalls.{AreNone}
-use Rattle.card_c.specs.OwnCalls.{OwnCard, OwnDriven, own_card, wait_code}
+use Rattle.card_c.specs.OwnCalls.{IsEndWith, OwnCard, OwnDriven, own_card, wait_code}
 use Rattle.card_c.specs.WholeCalls.{IsCarriedOut, IsRefusal, RefusesLength, data_room, longest_answer, longest_response}
 
 -- nothing is written
@@ -41,7 +41,8 @@ TriesTpdu tpdu room len room' len' s went t =
     × IsCarriedOut own_card tpdu s.0 s.1 (data_room asked) room len code t.0 t.1 room' len')
 
 -- A command at an end at rest: the array is too small; it waits for the application; memory ran
--- out; or the response is written. It is the one that was given, as far as Le asks for it.
+-- out; or the response is written, and wiped in the card. It is the one that was given, as far as
+-- Le asks for it.
 abbrev pub TriesCommand : Command → List ℕ → ℕ → List ℕ → ℕ → EndOf OwnCard → Went
     → EndOf OwnCard → Type 0
 TriesCommand c room len room' len' end went end' =
@@ -51,11 +52,11 @@ TriesCommand c room len room' len' end went end' =
     × (wait_code (wanted_for end.card.app c) ≡ Some code) × (went ≡ Waits code) × (end' ≡ end)
     × Unwritten room len room' len')
     ⊎ ((longest_response c ≤ length room) × (wait_code (wanted_for end.card.app c) ≡ None)
-    × (went ≡ Refused gt_memory) × (end'.stage ≡ end.stage)
-    × (own_card.standing end'.card ≡ own_card.standing end.card)
-    × (own_card.prepared end'.card ≡ own_card.prepared end.card) × Unwritten room len room' len')
+    × (went ≡ Refused gt_memory) × IsEndWith end (forgotten_by end.card) end'
+    × Unwritten room len room' len')
     ⊎ ((longest_response c ≤ length room) × (wait_code (wanted_for end.card.app c) ≡ None)
-    × (went ≡ Over gt_ok) × (end'.stage ≡ end.stage) × (response : List ℕ)
+    × (went ≡ Over gt_ok) × (end'.stage ≡ end.stage) × (end'.card.fresh ≡ [])
+    × (response : List ℕ)
     × RespondsAs (own_card.standing end.card) c response (own_card.standing end'.card)
     × IsCopied response room gt_ok room' × (len' ≡ length response))
 

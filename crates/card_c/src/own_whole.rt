@@ -1,10 +1,10 @@
 //! Whole TPDUs and whole commands at a card of an own application.
-ghost use Rattle.std.specs.Prelude.{◌≡◌, ◌≤◌, length};
+ghost use Rattle.std.specs.Prelude.{◌≡◌, ◌≤◌, [], length, true};
 ghost use Rattle.command_card.specs.declared.own.Wanted.{Wanted};
-ghost use Rattle.command_card.specs.Wanted.{wanted_by};
+ghost use Rattle.command_card.specs.Wanted.{is_free, wanted_by};
 ghost use Rattle.card_c.specs.Codes.{gt_ok};
 ghost use Rattle.card_c.specs.Copying.{IsCopied};
-ghost use Rattle.card_c.specs.OwnCalls.{IsWantedIn, is_response, own_card};
+ghost use Rattle.card_c.specs.OwnCalls.{IsWantedIn, is_response};
 ghost use Rattle.card_c.specs.OwnWhole.{Begins, Continues, OwnCommand, OwnCommandOne, OwnTpdu, OwnTpduOne, TriesBytes, TriesCommand, TriesTpdu};
 
 use crate::card_apdu::refuse;
@@ -264,9 +264,10 @@ fn try_command(
 
 /// Writes the response to the last command, for which there is room, and wipes it in the card.
 fn hand_over(end: &mut CardEnd<CommandCard<Given>>, response: &mut [u8], len: &mut usize)
-    requires { length end.old.card.fresh ≤ length response.old }
+    requires fits { length end.old.card.fresh ≤ length response.old }
+    requires free { is_free end.old.card.ready ≡ true }
     ensures stage { end.new.stage ≡ end.old.stage }
-    ensures stands { own_card.standing end.new.card ≡ own_card.standing end.old.card }
+    ensures wiped { end.new.card ≡ record end.old.card { fresh = [] } }
     ensures copied { IsCopied end.old.card.fresh response.old gt_ok response.new }
     ensures counted { len.new ≡ length end.old.card.fresh }
 {

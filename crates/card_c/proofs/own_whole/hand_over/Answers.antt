@@ -7,6 +7,6 @@ pub returns-clause-copied : goal.returns-clause-copied
 returns-clause-copied c =
     let fresh = c.args.end.now.card.fresh in
     let same = c.response.ensures ∙ ap (λ card. card.fresh) c.card.ensures in
-    fits_is fresh c.args.response.now c.copied.result c.copied.new.to c.requires
+    fits_is fresh c.args.response.now c.copied.result c.copied.new.to c.requires.fits
     (subst (λ (from : List ℕ). IsCopied from c.args.response.now c.copied.result c.copied.new.to)
     same c.copied.ensures.copied)

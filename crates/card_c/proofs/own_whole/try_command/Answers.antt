@@ -10,8 +10,8 @@ use Rattle.card_c.specs.WholeCalls.{longest_response}
 use Rattle.card_c.proofs.CardApduLemmas.{unwrapped}
 use Rattle.card_c.proofs.own_whole.try_command.Goals as goal
 
-pub hand_over-requires : goal.hand_over-requires
-hand_over-requires c = omega (
+pub hand_over-requires-clause-fits : goal.hand_over-requires-clause-fits
+hand_over-requires-clause-fits c = omega (
   arith,
   c.if-response-most.false,
   c.from-most.ensures,
@@ -48,8 +48,10 @@ returns-in-Ok c =
       sym (ap wait_code c.in-Nothing.ensures),
       refl,
       c.hand_over.ensures.stage ∙ c.respond_to.ensures.stage,
+      ap (λ card. card.fresh) c.hand_over.ensures.wiped,
       mid.card.fresh,
-      subst (λ (s : CardState GivenState). Done a.command s) (sym c.hand_over.ensures.stands) told,
+      subst (λ (s : CardState GivenState). Done a.command s)
+          (sym (ap own_card.standing c.hand_over.ensures.wiped)) told,
       c.hand_over.ensures.copied,
       c.hand_over.ensures.counted,
     )))

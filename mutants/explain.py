@@ -39,7 +39,7 @@ SHOWN = 50_000
 LONGEST = 990_000
 # The parts of outputs that leave nothing out: any other output refuses a fault.
 WHOLE = ("all", "shown", "json")
-# The most seconds for a module's cases. They take about 35 of a processor.
+# The most seconds for a module's cases. They take less than 35 of a processor.
 SECONDS = 600
 # Separates the cases in the program's input, and its outputs.
 MARK = "\x1e"
@@ -238,9 +238,10 @@ fn show(rt: &HostRuntime, place: usize, sum: &[u8], output: &[u8]) -> usize {
 ONE = """
 fn tryNUMBER(rt: &HostRuntime, all: &[u8]) {
     let names = mNUMBER::names::Names::of(rt.alloc(), "").unwrap();
+    let forms = mNUMBER::forms::Forms::of(rt.alloc(), mNUMBER::forms::FORMS).unwrap();
     let mut size = 0;
     for (place, part) in all.split(|byte| *byte == 0x1E).enumerate().skip(1) {
-        let output = runNUMBER(rt, &part[17..], &names);
+        let output = runNUMBER(rt, &part[17..], &names, &forms);
         let shown = show(rt, place - 1, &part[..16], output.as_slice());
         size += shown;
         if size > SHOWN || (shown > 0 && part[16] == b'!') {
@@ -250,7 +251,12 @@ fn tryNUMBER(rt: &HostRuntime, all: &[u8]) {
     let _ = io::writer(rt).write_all(b"all");
 }
 
-fn runNUMBER(rt: &HostRuntime, part: &[u8], names: &mNUMBER::names::Names) -> Vec<u8> {
+fn runNUMBER(
+    rt: &HostRuntime,
+    part: &[u8],
+    names: &mNUMBER::names::Names,
+    forms: &mNUMBER::forms::Forms<'_>,
+) -> Vec<u8> {
     let size = words_of(part).len();
     let mut parts = words_of(part).split(|byte| *byte == 0x1B);
     let words = parts.next().unwrap_or(&[]);
@@ -291,9 +297,9 @@ fn runNUMBER(rt: &HostRuntime, part: &[u8], names: &mNUMBER::names::Names) -> Ve
     mask.names = names.twin(rt.alloc());
     let mut trace = &part[size + 1..];
     let mut out = Vec::new(rt.alloc());
-    let reading = readingNUMBER(rt, &options);
+    let reading = options.reading(rt.alloc(), forms).unwrap();
     if words[3] == b'd' {
-        let other = readingNUMBER(rt, &options);
+        let other = options.reading(rt.alloc(), forms).unwrap();
         diffNUMBER(rt, layout, mask, resumes, (reading, other), trace, &mut out);
         return out;
     }
@@ -313,14 +319,6 @@ fn runNUMBER(rt: &HostRuntime, part: &[u8], names: &mNUMBER::names::Names) -> Ve
     }
     let _ = out.write_all(b"\\x1e");
     out
-}
-
-fn readingNUMBER(
-    rt: &HostRuntime,
-    options: &mNUMBER::reading::Options<'_>,
-) -> mNUMBER::reading::Reading {
-    let forms = mNUMBER::forms::Forms::of(rt.alloc(), mNUMBER::forms::FORMS).unwrap();
-    options.reading(rt.alloc(), &forms).unwrap()
 }
 
 fn diffNUMBER(
@@ -439,10 +437,10 @@ def refusal(end, text, cases):
 
 
 def ordered(cases):
-    """Returns the cases in an order in which those of one kind are spread, with the long ones
-    last."""
+    """Returns the cases in an order in which those of one kind are spread. Those of secrets, which
+    refuse few faults, are behind the others, and the long ones are last."""
     random.Random(1).shuffle(cases)
-    return sorted(cases, key=lambda case: len(case.given) > 5000)
+    return sorted(cases, key=lambda case: (len(case.given) > 5000, bool(case.secret)))
 
 
 def outcomes(folder, faults):

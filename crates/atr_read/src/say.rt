@@ -1,8 +1,9 @@
 //! Prints what one answer to reset means.
 
-use atr_core::{Atr, CardStatus, Classes, ClockStop, Group, Mode, block_guard_time};
+use atr_core::{Atr, CardStatus, Classes, ClockStop, Group, Mode, Rfu, block_guard_time};
 use hex::FromHexError;
 use std::alloc::{AllocError, Global};
+use std::fmt::Display;
 use std::io;
 use std::io::Write;
 
@@ -12,17 +13,9 @@ use std::io::Write;
 /// # Errors
 /// - `io::Error`: the output can't be written, or memory ran out. A part may be written.
 pub fn say<W: Write>(alloc: Global, text: &str, output: &mut W) -> io::Result<bool> {
-    let mut digits = String::new(alloc);
-    for word in text.split_ascii_whitespace() {
-        digits.push_str(word)?;
-    }
-    let bytes = match hex::decode(alloc, digits.as_str()) {
-        Ok(bytes) => bytes,
-        Err(FromHexError::OutOfMemory) => return Err(AllocError.into()),
-        Err(_) => {
-            writeln!(output, "{text}: bad hex")?;
-            return Ok(false);
-        }
+    let Some(bytes) = bytes_of(alloc, text)? else {
+        writeln!(output, "{text}: bad hex")?;
+        return Ok(false);
     };
     match Atr::read(&bytes) {
         Ok(answer) => {
@@ -38,6 +31,19 @@ pub fn say<W: Write>(alloc: Global, text: &str, output: &mut W) -> io::Result<bo
     }
 }
 
+/// Returns the bytes of the digits in this text, or `None` if it has another form.
+fn bytes_of(alloc: Global, text: &str) -> Result<Option<Vec<u8>>, AllocError> {
+    let mut digits = String::new(alloc);
+    for word in text.split_ascii_whitespace() {
+        digits.push_str(word)?;
+    }
+    match hex::decode(alloc, digits.as_str()) {
+        Ok(bytes) => Ok(Some(bytes)),
+        Err(FromHexError::OutOfMemory) => Err(AllocError),
+        Err(_) => Ok(None),
+    }
+}
+
 /// Prints the convention, each interface byte by its name, and the historical bytes.
 fn say_groups<W: Write>(answer: &Atr, output: &mut W) -> io::Result<()> {
     writeln!(output, "  convention    {}", answer.convention())?;
@@ -48,18 +54,22 @@ fn say_groups<W: Write>(answer: &Atr, output: &mut W) -> io::Result<()> {
         number = number.saturating_add(1);
         say_group(number, named.group, output)?;
     }
-    write!(output, "  historical    ")?;
-    if answer.historical().is_empty() {
-        write!(output, "none")?;
-    }
-    for byte in answer.historical() {
-        write!(output, "{byte:02X}")?;
-    }
-    writeln!(output)?;
+    say_historical(answer.historical(), output)?;
     match answer.card_status() {
         Some(status) => say_card_status(status, output),
         None => Ok(()),
     }
+}
+
+fn say_historical<W: Write>(bytes: &[u8], output: &mut W) -> io::Result<()> {
+    write!(output, "  historical    ")?;
+    if bytes.is_empty() {
+        write!(output, "none")?;
+    }
+    for byte in bytes {
+        write!(output, "{byte:02X}")?;
+    }
+    writeln!(output)
 }
 
 /// Prints the life cycle and the status word that the historical bytes end with.
@@ -92,22 +102,13 @@ fn say_values<W: Write>(answer: &Atr, output: &mut W) -> io::Result<()> {
         write!(output, " T={t}")?;
     }
     writeln!(output)?;
-    match answer.fi() {
-        Ok(fi) => writeln!(output, "  Fi            {fi}")?,
-        Err(rfu) => writeln!(output, "  Fi            {rfu}")?,
-    }
-    match answer.di() {
-        Ok(di) => writeln!(output, "  Di            {di}")?,
-        Err(rfu) => writeln!(output, "  Di            {rfu}")?,
-    }
+    say_value("Fi", answer.fi(), "", output)?;
+    say_value("Di", answer.di(), "", output)?;
     for t in &answer.protocols() {
         let guard = answer.guard_time(*t);
         writeln!(output, "  guard time    T={t}: {guard}")?;
     }
-    match answer.waiting_time() {
-        Ok(cycles) => writeln!(output, "  waiting time  {cycles} cycles")?,
-        Err(rfu) => writeln!(output, "  waiting time  {rfu}")?,
-    }
+    say_value("waiting time", answer.waiting_time(), " cycles", output)?;
     if answer.protocols().iter().any(|t| *t == 1) {
         say_blocks(answer, output)?;
     }
@@ -115,22 +116,26 @@ fn say_values<W: Write>(answer: &Atr, output: &mut W) -> io::Result<()> {
     say_supply(answer, output)
 }
 
+/// Prints a value in its unit after its name, or that its code is reserved.
+fn say_value<W: Write, T: Display + Copy>(
+    name: &str,
+    value: Result<T, Rfu>,
+    unit: &str,
+    output: &mut W,
+) -> io::Result<()> {
+    match value {
+        Ok(value) => writeln!(output, "  {name:<14}{value}{unit}"),
+        Err(rfu) => writeln!(output, "  {name:<14}{rfu}"),
+    }
+}
+
 /// Prints the values for T=1: IFSC, the error detection code, CWT, BWT and BGT.
 fn say_blocks<W: Write>(answer: &Atr, output: &mut W) -> io::Result<()> {
-    match answer.ifsc() {
-        Ok(size) => writeln!(output, "  IFSC          {size}")?,
-        Err(rfu) => writeln!(output, "  IFSC          {rfu}")?,
-    }
-    match answer.edc() {
-        Ok(edc) => writeln!(output, "  EDC           {edc}")?,
-        Err(rfu) => writeln!(output, "  EDC           {rfu}")?,
-    }
+    say_value("IFSC", answer.ifsc(), "", output)?;
+    say_value("EDC", answer.edc(), "", output)?;
     let wait = answer.character_waiting_time();
     writeln!(output, "  CWT           {wait} etu")?;
-    match answer.block_waiting_time(1) {
-        Ok(time) => writeln!(output, "  BWT           {time}")?,
-        Err(rfu) => writeln!(output, "  BWT           {rfu}")?,
-    }
+    say_value("BWT", answer.block_waiting_time(1), "", output)?;
     writeln!(output, "  BGT           {} etu", block_guard_time())
 }
 

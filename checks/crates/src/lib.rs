@@ -4,6 +4,7 @@ mod apdu;
 mod card;
 mod command;
 mod line;
+mod pieces;
 mod t1;
 mod terminal;
 mod tlv;

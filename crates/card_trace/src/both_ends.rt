@@ -1,5 +1,5 @@
 //! A terminal and a card in a session, for scripts of `play`.
-ghost use Rattle.std.specs.Prelude.{◌≡◌, IfOk};
+ghost use Rattle.std.specs.Prelude.{◌≡◌, IfOk, false};
 ghost use Rattle.card_terminal.specs.Operations.{operation_of};
 ghost use Rattle.card_trace.specs.Playing.{in_session};
 ghost use Rattle.card_trace.specs.PrintedText.{printed_text};
@@ -7,6 +7,7 @@ ghost use Rattle.card_trace.specs.ScriptFields.{AreOfAgreedCommand};
 ghost use Rattle.card_trace.specs.ScriptPlay.{act_of as play_act};
 ghost use Rattle.card_trace.specs.ScriptTable.{addition_of};
 ghost use Rattle.card_trace.specs.Scripts.{play_script, IsRun, IsSent};
+ghost use Rattle.card_trace.specs.TraceText.{operation_text as text_of_operation};
 
 use crate::printed::Printed;
 use crate::runner::Runner;
@@ -18,7 +19,7 @@ use crate::script::refusal::Refusal;
 use crate::script::section::Section;
 use crate::script::table_line::{TableLine, add, read_table_line};
 use crate::text::{operation_text, table_text};
-use card_terminal::{Op, Session};
+use card_terminal::{Answer, Op, Session};
 use object_card::{CardBuilder, ObjectCard};
 use std::alloc::{AllocError, Allocator};
 use t0_core::{CardEnd, Plan, Plans, Recorder};
@@ -117,11 +118,7 @@ impl<A: Allocator + Copy> BothEnds<A> {
         let mut cursor = Plans::over(&self.plans);
         let answer = self.session.operate(alloc, op, &mut cursor, &mut recorder)?;
         self.plans.clear();
-        if recorder.lost() {
-            return Err(AllocError);
-        }
-        let text = operation_text(alloc, recorder.heard(), &answer)?;
-        Ok(Printed::Lines(text))
+        lines_of(alloc, &recorder, &answer)
     }
 
     /// Sends one command under the plans, drops them, and returns its lines. The bytes must be a
@@ -143,10 +140,25 @@ impl<A: Allocator + Copy> BothEnds<A> {
             .session
             .send(alloc, command, &mut cursor, &mut recorder)?;
         self.plans.clear();
-        if recorder.lost() {
-            return Err(AllocError);
-        }
-        let text = operation_text(alloc, recorder.heard(), &answer)?;
-        Ok(Printed::Lines(text))
+        lines_of(alloc, &recorder, &answer)
     }
+}
+
+/// Returns the lines of what the recorder heard, and of the answer.
+///
+/// # Errors
+/// - `AllocError`: memory ran out, also for what the recorder hears.
+fn lines_of<A: Allocator + Copy>(
+    alloc: A,
+    recorder: &Recorder<A>,
+    answer: &Answer<A>,
+) -> Result<Printed<A>, AllocError>
+    ensures { IfOk result (λ printed. (recorder.now.lost ≡ false)
+        × (printed_text printed ≡ text_of_operation recorder.now.heard answer.now)) }
+{
+    if recorder.lost() {
+        return Err(AllocError);
+    }
+    let text = operation_text(alloc, recorder.heard(), answer)?;
+    Ok(Printed::Lines(text))
 }

@@ -189,13 +189,11 @@ impl<'t> Forms<'t> {
                 continue;
             }
             if let Some(head) = line.strip_prefix("form ") {
-                forms
-                    .push(form_of(head).ok_or(bad)?)
-                    .map_err(AllocError::from)?;
+                forms.push(form_of(head).ok_or(bad)?)?;
             } else {
                 let place = forms.len().checked_sub(1).ok_or(bad)?;
                 let row = row_of(alloc, place, line)?.ok_or(bad)?;
-                rows.push(row).map_err(AllocError::from)?;
+                rows.push(row)?;
             }
         }
         Ok(Forms { forms, rows })
@@ -251,17 +249,10 @@ impl<'t> Forms<'t> {
 
 /// Returns the form of a head, behind `form `.
 fn form_of(head: &str) -> Option<Form<'_>> {
-    if let Some(name) = head.strip_suffix(": characters") {
-        return Some(Form {
-            name,
-            is_whole: false,
-        });
-    }
-    let name = head.strip_suffix(": commands")?;
-    Some(Form {
-        name,
-        is_whole: true,
-    })
+    let whole = head.strip_suffix(": commands");
+    let name = whole.or(head.strip_suffix(": characters"))?;
+    let is_whole = whole.is_some();
+    Some(Form { name, is_whole })
 }
 
 /// Returns a row; `None` if the line is not one.
@@ -276,11 +267,8 @@ fn row_of(alloc: Global, form: usize, line: &str) -> Result<Option<Row>, AllocEr
         return Ok(None);
     };
     let size = head_len(parts.as_slice()).min(parts.len());
-    let (front, back) = parts.as_slice().split_at(size);
-    let mut head = Vec::new(alloc);
-    head.extend_from_slice(front)?;
-    let mut tail = Vec::new(alloc);
-    tail.extend_from_slice(back)?;
+    let mut head = parts;
+    let tail = head.split_off(size)?;
     Ok(Some(Row {
         form,
         says,
@@ -305,12 +293,7 @@ static KINDS: [(&str, Saying); 10] = [
 
 /// Returns what a row of this kind says.
 fn saying_of(kind: &str) -> Option<Saying> {
-    for (name, says) in &KINDS {
-        if *name == kind {
-            return Some(*says);
-        }
-    }
-    None
+    Some(KINDS.iter().find(|row| row.0 == kind)?.1)
 }
 
 /// Returns the parts of a pattern; `None` if a brace is open, or has no part's name in it.
@@ -366,12 +349,10 @@ fn part_of(name: &[u8], stop: Stop) -> Option<Part> {
         ("prefix", Part::Prefix),
         ("more", Part::More),
     ];
-    for (text, part) in parts {
-        if text.as_bytes() == name {
-            return Some(part);
-        }
+    match parts.iter().find(|row| row.0.as_bytes() == name) {
+        Some((_, part)) => Some(*part),
+        None => Some(Part::Skip(number_of(name.strip_prefix(b"skip ")?)?)),
     }
-    Some(Part::Skip(number_of(name.strip_prefix(b"skip ")?)?))
 }
 
 /// Returns where a field ends before this rest of a pattern.

@@ -233,7 +233,8 @@ def test_a_row_that_begins_after_a_second_interrupt(tmp_path, monkeypatch):
     own, is_over = desk.connected, threading.Event()
     monkeypatch.setattr(desk, "connected", connected)
     monkeypatch.setenv("STANDIN", str(tmp_path))
-    at = desk.Desk([[], []], room.opened(2), argparse.Namespace(go=True, stop_after=1, reader=[]))
+    given = argparse.Namespace(go=True, stop_after=1, reader=[], report=None)
+    at = desk.Desk([[], []], room.opened(2), given)
     at.run()
     [reader] = [it for it in threading.enumerate() if isinstance(it, desk.Reader)]
     is_over.set()

@@ -24,7 +24,8 @@ abbrev pub json_fields : Fields → List ℕ
 json_fields f = number_text (codes ",\"time_us\":") f.time_us [] ++ name_text f.instruction.now
     ++ number_text (codes ",\"continues\":") f.continues (codes ",\"continues\":null")
     ++ flag_text (codes ",\"asked_again\":true") f.is_again
-    ++ number_text (codes ",\"le\":") f.le [] ++ flag_text (codes ",\"masked\":true") f.is_masked
+    ++ number_text (codes ",\"le\":") f.le (flag_text (codes ",\"le\":null") f.hides_le)
+    ++ flag_text (codes ",\"masked\":true") f.is_masked
 
 abbrev pub fields_text : Medium → Fields → List ℕ
 fields_text Json f = json_fields f

@@ -20,6 +20,8 @@ pub struct Fields {
     pub is_again: bool,
     /// The most bytes that Le after data of the terminal asks for.
     pub le: Option<u64>,
+    /// Whether that number is hidden.
+    pub hides_le: bool,
     /// Whether a field of the TPDU is hidden.
     pub is_masked: bool,
 }
@@ -32,6 +34,7 @@ impl Fields {
         continues: None,
         is_again: false,
         le: None,
+        hides_le: false,
         is_masked: false,
     };
 }
@@ -59,7 +62,8 @@ fn push_json(sheet: &mut Sheet, fields: Fields)
         ",\"continues\":null",
     );
     push_flag(sheet, ",\"asked_again\":true", fields.is_again);
-    push_number(sheet, ",\"le\":", fields.le, "");
+    let no_le = if fields.hides_le { ",\"le\":null" } else { "" };
+    push_number(sheet, ",\"le\":", fields.le, no_le);
     push_flag(sheet, ",\"masked\":true", fields.is_masked);
 }
 

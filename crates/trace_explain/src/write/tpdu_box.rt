@@ -7,7 +7,7 @@ ghost use Rattle.trace_explain.specs.Written.{hidden};
 
 use crate::describe::block_words::push_blocks;
 use crate::describe::clock::{Clock, push_duration};
-use crate::describe::mask::{Mask, Origin, Shown};
+use crate::describe::mask::{Mask, Origin, Shown, push_hidden_line};
 use crate::describe::meaning::{is_well, push_meaning};
 use crate::describe::outline::{Outline, name_of};
 use crate::describe::phrases;
@@ -69,7 +69,7 @@ pub fn tell_box(
     phrases::push_procedure(&mut output.page.lines, outline.tally);
     output.row(Side::Card, "procedure");
     tell_data(tpdu, links, mask, output);
-    push_most(&mut output.page.lines, tpdu);
+    push_most(&mut output.page.lines, tpdu.le, hides_le(tpdu, links, mask));
     output.row(Side::Terminal, "Le");
     tell_answer(tpdu, links, mask, output);
     tell_status(&outline, status_side(tpdu), status, output);
@@ -150,12 +150,14 @@ fn tell_fields(
 
 /// The fields that only JSON has.
 fn fields_of(tpdu: &Tpdu, outline: &Outline, links: Links, clock: &Clock, mask: &Mask) -> Fields {
+    let hides_le = hides_le(tpdu, links, mask);
     Fields {
         time_us: clock.began_us(),
         instruction: outline.instruction(),
         continues: links.joins.then_some(links.number.saturating_sub(1)),
         is_again: links.joins && matches!(links.link, Link::AskedAgain(_)),
-        le: tpdu.le.map(|le| u64::from(count(le))),
+        le: tpdu.le.filter(|_| !hides_le).map(|le| u64::from(count(le))),
+        hides_le,
         is_masked: outline.is_hidden || masked(tpdu, links, mask) != (false, false),
     }
 }
@@ -193,10 +195,21 @@ fn push_time(lines: &mut Sheet, clock: &Clock) {
 }
 
 /// Adds Le after data of the terminal. JSON has a field for it.
-fn push_most(lines: &mut Sheet, tpdu: &Tpdu) {
-    if !matches!(lines.layout().medium, Medium::Json) {
-        phrases::push_most(lines, tpdu.le);
+fn push_most(lines: &mut Sheet, le: Option<u8>, is_hidden: bool) {
+    match lines.layout().medium {
+        Medium::Json => {}
+        _ if is_hidden => push_hidden_line(lines),
+        _ => phrases::push_most(lines, le),
     }
+}
+
+/// Whether a mask hides Le: it hides all data of the terminal, whose last byte Le may be.
+fn hides_le(tpdu: &Tpdu, links: Links, mask: &Mask) -> bool {
+    tpdu.le.is_some()
+        && Origin::of(tpdu, links, Direction::ToCard).is_some_and(|origin| matches!(
+            mask.shown(origin),
+            Shown::Nothing
+        ))
 }
 
 /// The kind of the box, by the status.

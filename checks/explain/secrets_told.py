@@ -141,7 +141,7 @@ def of_logs():
     yield "without an answer", [], [f"> {verify}", "reset", f"> {verify}"]
     yield "a byte too few", [], [f"> 0020008009{DIGITS}", "< 6700"]
     yield "a byte too many, taken for Le", [], [f"> 0020008007{DIGITS}", "< 6700"]
-    yield "one behind an answer without a command", [], ["< 9000", f"> 0020008007{DIGITS}", "< 6700"]
+    yield "one that is loose", [], ["< 9000", f"> 0020008007{DIGITS}", "< 6700"]
     yield "an extended command", [], [f"> 00200080000008{DIGITS}", "< 6700"]
     yield "an answer without a status", [], ["> 00CA5F2000", f"< {DIGITS}"]
     yield "an answer before a command", [], [f"< {DIGITS}9000"]

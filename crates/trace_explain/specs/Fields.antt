@@ -20,12 +20,15 @@ abbrev pub flag_text : List ℕ → Bool → List ℕ
 flag_text text false = []
 flag_text text true = text
 
+-- the most bytes that Le asks for, unless they are hidden
+abbrev pub le_text : Fields → List ℕ
+le_text f = flag_text (codes ",\"le\":null") f.hides_le ++ number_text (codes ",\"le\":") f.le []
+
 abbrev pub json_fields : Fields → List ℕ
 json_fields f = number_text (codes ",\"time_us\":") f.time_us [] ++ name_text f.instruction.now
     ++ number_text (codes ",\"continues\":") f.continues (codes ",\"continues\":null")
     ++ flag_text (codes ",\"asked_again\":true") f.is_again
-    ++ number_text (codes ",\"le\":") f.le (flag_text (codes ",\"le\":null") f.hides_le)
-    ++ flag_text (codes ",\"masked\":true") f.is_masked
+    ++ le_text f ++ flag_text (codes ",\"masked\":true") f.is_masked
 
 abbrev pub fields_text : Medium → Fields → List ℕ
 fields_text Json f = json_fields f

@@ -25,11 +25,14 @@ abbrev pub interindustry : ℕ → Option Direction
 interindustry ins = if is_among ins interindustry_from_card then Some FromCard
     else if is_among ins interindustry_to_card then Some ToCard else None
 
--- EMV's own classes (4.3, Book 3, 6.5): CARD BLOCK, APPLICATION UNBLOCK and BLOCK, PIN
--- CHANGE/UNBLOCK, GET PROCESSING OPTIONS, GENERATE AC.
-abbrev pub payment : ℕ → Option Direction
-payment ins = if is_among ins (0x16 ∷ 0x18 ∷ 0x1E ∷ 0x24 ∷ 0xA8 ∷ 0xAE ∷ []) then Some ToCard
-    else None
+-- Classes 80 to 8F. EMV (4.3, Book 3, 6.5): CARD BLOCK, APPLICATION UNBLOCK and BLOCK, PIN
+-- CHANGE/UNBLOCK, GET PROCESSING OPTIONS, GENERATE AC. A UICC (ETSI TS 102 221, 10.1.2): TERMINAL
+-- PROFILE and RESPONSE, INCREASE, TERMINAL CAPABILITY, ENVELOPE, and FETCH, whose data the card
+-- sends. Its STATUS (F2) is GET STATUS to other cards, which takes data.
+abbrev pub proprietary : ℕ → Option Direction
+proprietary ins = if ins == 0x12 then Some FromCard
+    else if is_among ins (0x10 ∷ 0x14 ∷ 0x16 ∷ 0x18 ∷ 0x1E ∷ 0x24 ∷ 0x32 ∷ 0xA8 ∷ 0xAA ∷ 0xAE
+    ∷ 0xC2 ∷ []) then Some ToCard else None
 
 -- A SIM card's class (3GPP TS 51.011, 9.2): the card sends data under FETCH, READ BINARY, READ
 -- RECORD and STATUS, and under GET RESPONSE, which `everywhere` lists.
@@ -45,7 +48,7 @@ everywhere ins = if is_among ins (0xC0 ∷ 0xCA ∷ []) then Some FromCard
 
 abbrev pub own_way : ℕ → ℕ → Option Direction
 own_way cla ins = if nat_lt cla 0x80 then interindustry ins
-    else if nat_lt cla 0x90 then payment ins
+    else if nat_lt cla 0x90 then proprietary ins
     else if cla == 0xA0 then sim ins else None
 
 -- The way in a row of the program's table.

@@ -1,7 +1,7 @@
 //! The instructions that the program knows: one table for names, ways of data, P1-P2 and secrets.
 ghost use Rattle.std.specs.Prelude.{◌≡◌};
 ghost use Rattle.trace_explain.specs.Secrets.{is_secret};
-ghost use Rattle.trace_explain.specs.WaysOf.{by_standard, everywhere, interindustry, own_way, payment, sim, way_in};
+ghost use Rattle.trace_explain.specs.WaysOf.{by_standard, everywhere, interindustry, own_way, proprietary, sim, way_in};
 
 use crate::instructions::Parts::{
     Channel, Cryptogram, Object, Others, Place, Records, Reference, Selected,
@@ -39,9 +39,9 @@ pub type Instruction = (&'static str, Direction, Parts);
 
 /// Returns the instruction with this CLA and INS; `None` if the program does not know it.
 ///
-/// CLA `00` to `7F` are the classes of ISO/IEC 7816-4, `80` to `8F` those of EMV, and `A0` is that
-/// of a SIM card. If the class has no such INS, SELECT, GET RESPONSE, GET DATA and PUT DATA are
-/// read alike in every class (profile).
+/// CLA `00` to `7F` are the classes of ISO/IEC 7816-4, `80` to `8F` those of EMV and of a UICC, and
+/// `A0` is that of a SIM card. If the class has no such INS, SELECT, GET RESPONSE, GET DATA and PUT
+/// DATA are read alike in every class (profile).
 pub fn instruction(cla: u8, ins: u8) -> Option<Instruction>
     ensures { way_in result ≡ by_standard cla ins }
 {
@@ -57,7 +57,7 @@ fn of_class(cla: u8, ins: u8) -> Option<Instruction>
 {
     match cla {
         0x00..=0x7F => interindustry(ins),
-        0x80..=0x8F => payment(ins),
+        0x80..=0x8F => proprietary(ins),
         SIM_CLASS => sim(ins),
         _ => None,
     }
@@ -117,17 +117,24 @@ fn interindustry(ins: u8) -> Option<Instruction>
     })
 }
 
-/// Returns an instruction of EMV's classes `80` to `8F` (EMV 4.3, Book 3, 6.3.2).
-fn payment(ins: u8) -> Option<Instruction>
-    ensures { way_in result ≡ payment ins }
+/// Returns an instruction of the classes `80` to `8F`: of EMV (4.3, Book 3, 6.3.2), or of a UICC
+/// (ETSI TS 102 221, 10.1.2). No INS is in both.
+fn proprietary(ins: u8) -> Option<Instruction>
+    ensures { way_in result ≡ proprietary ins }
 {
     Some(match ins {
+        0x10 => ("TERMINAL PROFILE", ToCard, Others),
+        0x12 => ("FETCH", FromCard, Others),
+        0x14 => ("TERMINAL RESPONSE", ToCard, Others),
         0x16 => ("CARD BLOCK", ToCard, Others),
         0x18 => ("APPLICATION UNBLOCK", ToCard, Others),
         0x1E => ("APPLICATION BLOCK", ToCard, Others),
         0x24 => ("PIN CHANGE/UNBLOCK", ToCard, Others),
+        0x32 => ("INCREASE", ToCard, Others),
         0xA8 => ("GET PROCESSING OPTIONS", ToCard, Others),
+        0xAA => ("TERMINAL CAPABILITY", ToCard, Others),
         0xAE => ("GENERATE AC", ToCard, Cryptogram),
+        0xC2 => ("ENVELOPE", ToCard, Others),
         _ => return None,
     })
 }

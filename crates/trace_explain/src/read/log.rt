@@ -1,10 +1,10 @@
 //! A log of whole TPDUs or APDUs, read line by line: pairs each command with its answer.
-ghost use Rattle.std.specs.Prelude.{◌≡◌, ◌≤◌, ◌++◌, ◌∷◌, [], None, Some, IfErr, IfOk, OnOk, length, map, true};
+ghost use Rattle.std.specs.Prelude.{◌≡◌, ◌≤◌, ◌+◌, ◌++◌, ◌∷◌, [], None, Some, IfErr, IfOk, OnOk, length, map, true};
 ghost use Rattle.trace_explain.specs.Noted.{are_status};
 ghost use Rattle.trace_explain.specs.Pairs.{status_in};
 ghost use Rattle.trace_explain.specs.Patterns.{all_of, marked_by};
 ghost use Rattle.trace_explain.specs.declared.read.log.Open.TheVariants.{Nothing};
-ghost use Rattle.trace_explain.specs.Logs.{IsBadIn, IsTooMuch, IsNoMemory, IsTwofold, Step, Takes, TakesLogLine, TakesOff, Took, answered, at_first, begun, behind, both, closed, command_len, continued, ended, entry_of, given_up, left_of, log_at, noted, opens, read_log, rest_in, resets, started, switched};
+ghost use Rattle.trace_explain.specs.Logs.{IsBadIn, IsTooMuch, IsNoMemory, IsTwofold, Step, Takes, TakesLogLine, TakesOff, Took, answered, at_first, begun, behind, both, closed, command_len, continued, ended, entry_of, given_up, left_of, len_with, log_at, noted, opens, read_log, rest_in, resets, started, switched};
 
 use crate::follow::tpdu::are_status;
 use crate::instructions::instruction;
@@ -430,8 +430,7 @@ fn read_rest(
     }
 }
 
-/// Returns the length of the command before its answer: with the terminal's data, if the answer has
-/// SW1-SW2 behind as many as P3 says.
+/// Returns the length of the command before its answer.
 fn command_len(bytes: &[u8]) -> usize
     ensures value { result ≡ command_len bytes.now }
     ensures within { result ≤ length bytes.now }
@@ -439,10 +438,24 @@ fn command_len(bytes: &[u8]) -> usize
     let [cla, ins, _, _, p3, ..] = bytes else {
         return bytes.len();
     };
-    let whole = usize::from(*p3) + 5;
-    match instruction(*cla, *ins) {
-        Some((_, Direction::ToCard, _)) if bytes.len() >= whole + 2 => whole,
-        _ => 5,
+    if bytes.len() < usize::from(*p3) + 7 {
+        return 5;
+    }
+    let way = instruction(*cla, *ins).map(|(_, way, _)| way);
+    len_with(way, *p3, bytes.len())
+}
+
+/// Returns the length of the command in a line of `all` bytes. Before SW1-SW2 it has as many data
+/// as P3 says. They are those of the end that sends data this way.
+fn len_with(way: Option<Direction>, p3: u8, all: usize) -> usize
+    requires { p3 + 7 ≤ all }
+    ensures value { result ≡ len_with way p3 all }
+    ensures within { result ≤ all }
+{
+    match way {
+        Some(Direction::ToCard) => usize::from(p3) + 5,
+        Some(Direction::FromCard) => 5,
+        None => { if p3 == 0 { 5 } else { all } }
     }
 }
 

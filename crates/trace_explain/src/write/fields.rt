@@ -1,6 +1,6 @@
 //! Fields of a TPDU that only JSON has, beside its header, data and status.
 ghost use Rattle.std.specs.Prelude.{◌≡◌};
-ghost use Rattle.trace_explain.specs.Fields.{fields_text, flag_text, json_fields, name_text, number_text};
+ghost use Rattle.trace_explain.specs.Fields.{fields_text, flag_text, json_fields, le_text, name_text, number_text};
 ghost use Rattle.trace_explain.specs.Sheets.{Adds};
 
 use crate::write::layout::Medium;
@@ -62,9 +62,16 @@ fn push_json(sheet: &mut Sheet, fields: Fields)
         ",\"continues\":null",
     );
     push_flag(sheet, ",\"asked_again\":true", fields.is_again);
-    let no_le = if fields.hides_le { ",\"le\":null" } else { "" };
-    push_number(sheet, ",\"le\":", fields.le, no_le);
+    push_le(sheet, fields);
     push_flag(sheet, ",\"masked\":true", fields.is_masked);
+}
+
+/// Adds the most bytes that Le asks for, or `null` if they are hidden.
+fn push_le(sheet: &mut Sheet, fields: Fields)
+    ensures { Adds sheet.old (le_text fields) sheet.new }
+{
+    push_flag(sheet, ",\"le\":null", fields.hides_le);
+    push_number(sheet, ",\"le\":", fields.le, "");
 }
 
 /// Adds a number after this text, or another text without a number.

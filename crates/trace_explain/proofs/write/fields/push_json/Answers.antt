@@ -9,4 +9,4 @@ returns c =
     let N : List ℕ → Type 0 = λ x. Adds c.push_number.new.sheet (name_text x) c.push_name.new.sheet
     in adds_both (adds_five c.push_number.ensures
     (subst N c.as_bytes.ensures.value c.push_name.ensures) c.push_number-2.ensures
-    c.push_flag.ensures c.push_number-3.ensures) c.push_flag-2.ensures
+    c.push_flag.ensures c.push_le.ensures) c.push_flag-2.ensures

@@ -36,10 +36,16 @@ may_be_cut h = if is_among h.ins (0x0E ∷ 0xB0 ∷ 0xD0 ∷ 0xD6 ∷ [])
     then (not (h.p2 == 0) || (nat_lt h.p1 0x80 && not (h.p1 == 0)))
     else is_among h.ins (0xB1 ∷ 0xB3 ∷ 0xC0 ∷ 0xC2 ∷ 0xC3 ∷ 0xD1 ∷ 0xD7 ∷ 0xDD ∷ [])
 
--- SELECT has a name or a path
-abbrev pub is_name : ℕ → Direction → Bool
-is_name ins ToCard = ins == 0xA4
-is_name ins FromCard = false
+-- Secure messaging by bits 4-3 of the first interindustry classes, and bit 6 of the further ones
+-- (ISO/IEC 7816-4, 5.4.1).
+abbrev pub has_messaging : ℕ → Bool
+has_messaging cla = (nat_lt 0x03 cla && nat_lt cla 0x10) || (nat_lt 0x13 cla && nat_lt cla 0x20)
+    || (nat_lt 0x5F cla && nat_lt cla 0x80)
+
+-- SELECT has a name or a path, without secure messaging
+abbrev pub is_name : Header → Direction → Bool
+is_name h ToCard = (h.ins == 0xA4) && not (has_messaging h.cla)
+is_name h FromCard = false
 
 -- P1-P2 of GET DATA and PUT DATA name an object
 abbrev pub NamesObject : Header → List ℕ → Type 0
@@ -60,10 +66,10 @@ pub record ShowsValue (tags : List (List ℕ)) (tag : List ℕ) (continues goes_
 
 -- data that are not secret, with tags
 pub record ShowsTagged (tags : List (List ℕ)) (o : Origin) (shown : Shown) : Type 0 where
-  pub name : is_name o.header.ins o.way ≡ true → shown ≡ All
-  pub named : is_name o.header.ins o.way ≡ false → (t : List ℕ) → NamesObject o.header t
+  pub name : is_name o.header o.way ≡ true → shown ≡ All
+  pub named : is_name o.header o.way ≡ false → (t : List ℕ) → NamesObject o.header t
       → (tag : List ℕ) × NamesObject o.header tag × ShowsValue tags tag o.continues o.goes_on shown
-  pub others : is_name o.header.ins o.way ≡ false → ((tag : List ℕ) → NamesObject o.header tag → ⊥)
+  pub others : is_name o.header o.way ≡ false → ((tag : List ℕ) → NamesObject o.header tag → ⊥)
       → shown ≡ whole_or_nothing (o.continues || may_be_cut o.header)
 
 -- Without a mask all data are shown. A mask hides secret data. Without tags it shows all others.

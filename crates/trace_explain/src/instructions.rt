@@ -1,6 +1,6 @@
 //! The instructions that the program knows: one table for names, ways of data, P1-P2 and secrets.
 ghost use Rattle.std.specs.Prelude.{◌≡◌};
-ghost use Rattle.trace_explain.specs.Secrets.{is_secret};
+ghost use Rattle.trace_explain.specs.Secrets.{has_messaging, is_secret};
 ghost use Rattle.trace_explain.specs.WaysOf.{by_standard, everywhere, interindustry, own_way, proprietary, sim, way_in};
 
 use crate::instructions::Parts::{
@@ -189,8 +189,17 @@ pub fn is_secret(ins: u8) -> bool
     matches!(ins, 0x20 | 0x21 | 0x24 | 0x25 | 0x26 | 0x28 | 0x2C | 0x2D)
 }
 
-/// Whether the terminal's data may be objects: not a name or a path, nor reference data, unless bit
-/// 1 of INS is set (ISO/IEC 7816-4, 5.4.2, 7.1.1 and 7.5.6 to 7.5.10).
-pub fn may_have_objects(ins: u8) -> bool {
-    ins != 0xA4 && (ins & 1 == 1 || !is_secret(ins))
+/// Whether commands of this class have secure messaging (ISO/IEC 7816-4, 5.4.1).
+pub fn has_messaging(cla: u8) -> bool
+    ensures { result ≡ has_messaging cla }
+{
+    matches!(cla, 0x04..=0x0F | 0x14..=0x1F | 0x60..=0x7F)
+}
+
+/// Whether the terminal's data may be objects: those of secure messaging; else not a name or a
+/// path, nor reference data, unless bit 1 of INS is set (ISO/IEC 7816-4, 5.4.2, 7.1.1 and 7.5.6 to
+/// 7.5.10).
+pub fn may_have_objects(header: Header) -> bool {
+    let Header { cla, ins, .. } = header;
+    has_messaging(cla) || (ins != 0xA4 && (ins & 1 == 1 || !is_secret(ins)))
 }

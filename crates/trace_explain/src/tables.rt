@@ -321,6 +321,16 @@ bit cvm 1 3F=04 enciphered PIN by the ICC
 bit cvm 1 3F=05 enciphered PIN by the ICC and signature
 bit cvm 1 3F=1E signature
 bit cvm 1 3F=1F no CVM
+bit cvm 1 3E=06 reserved method
+bit cvm 1 38=08 reserved method
+bit cvm 1 38=10 reserved method
+bit cvm 1 3C=18 reserved method
+bit cvm 1 3E=1C reserved method
+bit cvm 1 30=20 method of the payment system
+bit cvm 1 38=30 method of the issuer
+bit cvm 1 3C=38 method of the issuer
+bit cvm 1 3E=3C method of the issuer
+bit cvm 1 3F=3E method of the issuer
 bit cvm 1 3F=3F no CVM performed
 bit cvm 1 40 or the next
 bit cvm 2 FF=00 always
@@ -384,6 +394,17 @@ bit priority 1 0F=01 first
 bit priority 1 0F=02 second
 bit priority 1 0F=03 third
 bit priority 1 0F=04 fourth
+bit priority 1 0F=05 fifth
+bit priority 1 0F=06 sixth
+bit priority 1 0F=07 seventh
+bit priority 1 0F=08 eighth
+bit priority 1 0F=09 ninth
+bit priority 1 0F=0A tenth
+bit priority 1 0F=0B eleventh
+bit priority 1 0F=0C twelfth
+bit priority 1 0F=0D thirteenth
+bit priority 1 0F=0E fourteenth
+bit priority 1 0F=0F fifteenth
 bit priority 1 80 only if the cardholder confirms
 # Book 4, Annex A2: terminal capabilities
 bit terminal 1 80 manual key entry

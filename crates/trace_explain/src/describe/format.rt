@@ -181,9 +181,19 @@ fn push_date(text: &mut Sheet, value: &[u8]) {
         return;
     };
     let century = if year < 50 { 20 } else { 19 };
-    if (1..=12).contains(&month) && (1..=31).contains(&day) {
+    if (1..=12).contains(&month) && (1..=days_in(year, month)).contains(&day) {
         separate(text, " ");
         write!(text, "{century}{year:02}-{month:02}-{day:02}");
+    }
+}
+
+/// The days of this month. From 1950 to 2049 each fourth year is a leap year.
+fn days_in(year: u64, month: u64) -> u64 {
+    match month {
+        2 if year % 4 == 0 => 29,
+        2 => 28,
+        4 | 6 | 9 | 11 => 30,
+        _ => 31,
     }
 }
 

@@ -12,7 +12,7 @@ use crate::follow::links::{Links, Whole};
 use crate::follow::response::waiting;
 use crate::follow::story::{header_of, status_of};
 use crate::follow::tpdu::Tpdu;
-use crate::instructions::is_secret;
+use crate::instructions::{has_messaging, is_secret};
 use crate::write::ascii::push_hex_lines;
 use crate::write::sheet::Sheet;
 use apdu_core::Header;
@@ -245,7 +245,7 @@ impl Mask {
         if has_secret(origin) {
             return Shown::Nothing;
         }
-        if self.tags.is_empty() || is_name(origin.header.ins, origin.way) {
+        if self.tags.is_empty() || is_name(origin.header, origin.way) {
             return Shown::All;
         }
         match named(origin.header) {
@@ -325,10 +325,10 @@ fn is_same(tag: Tag, other: Tag) -> bool
 }
 
 /// Whether the data are the name or path of SELECT.
-fn is_name(ins: u8, way: Direction) -> bool
-    ensures { result ≡ is_name ins way }
+fn is_name(header: Header, way: Direction) -> bool
+    ensures { result ≡ is_name header way }
 {
-    matches!(way, Direction::ToCard) && ins == 0xA4
+    matches!(way, Direction::ToCard) && header.ins == 0xA4 && !has_messaging(header.cla)
 }
 
 /// The tag that P1-P2 of GET DATA or PUT DATA name.

@@ -4,7 +4,7 @@ ghost use Rattle.std.specs.Prelude.{◌≡◌, ◌≢◌, [], get_or};
 use crate::follow::story::{header_of, sent, status_of};
 use crate::follow::tally::Tally;
 use crate::follow::tpdu::Tpdu;
-use crate::instructions::instruction;
+use crate::instructions::{has_messaging, instruction};
 use apdu_core::{Header, Status};
 use t0_core::Direction;
 
@@ -68,12 +68,13 @@ impl Outline {
     }
 }
 
-/// The name or path of SELECT. Nothing for any other command, whose data may be hidden.
+/// The name or path of SELECT. Nothing for any other command, whose data may be hidden, and with
+/// secure messaging.
 pub fn name_of(tpdu: &Tpdu) -> &[u8]
     ensures { get_or tpdu.now.header.items 1 0 ≢ 0xA4 → result.now ≡ [] }
 {
     match header_of(tpdu) {
-        Some((header, _)) if header.ins == 0xA4 => sent(tpdu),
+        Some((header, _)) if header.ins == 0xA4 && !has_messaging(header.cla) => sent(tpdu),
         _ => &[],
     }
 }

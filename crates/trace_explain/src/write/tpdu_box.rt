@@ -12,7 +12,7 @@ use crate::describe::meaning::{is_well, push_meaning};
 use crate::describe::outline::{Outline, name_of};
 use crate::describe::phrases;
 use crate::follow::links::{Link, Links, Whole};
-use crate::follow::story::Story;
+use crate::follow::story::{Story, header_of};
 use crate::follow::tpdu::{Tpdu, are_status};
 use crate::instructions::may_have_objects;
 use crate::write::ascii::push_digits;
@@ -421,5 +421,5 @@ fn may_be_objects(tpdu: &Tpdu, links: Links) -> bool {
         links.link,
         Link::None | Link::AskedAgain(_) | Link::Fetches(_) | Link::FetchesMore(_)
     );
-    is_whole && may_have_objects(tpdu.header.get(1).copied().unwrap_or(0xA4))
+    is_whole && header_of(tpdu).is_some_and(|(header, _)| may_have_objects(header))
 }

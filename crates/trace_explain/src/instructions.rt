@@ -196,9 +196,8 @@ pub fn has_messaging(cla: u8) -> bool
     matches!(cla, 0x04..=0x0F | 0x14..=0x1F | 0x60..=0x7F)
 }
 
-/// Whether the terminal's data may be objects: those of secure messaging; else not a name or a
-/// path, nor reference data, unless bit 1 of INS is set (ISO/IEC 7816-4, 5.4.2, 7.1.1 and 7.5.6 to
-/// 7.5.10).
+/// Whether the terminal's data may be objects. With secure messaging they may. Else a name, a path
+/// and reference data are none, unless bit 1 of INS is set (ISO/IEC 7816-4, 5.4.2, 7.1.1, 7.5).
 pub fn may_have_objects(header: Header) -> bool {
     let Header { cla, ins, .. } = header;
     has_messaging(cla) || (ins != 0xA4 && (ins & 1 == 1 || !is_secret(ins)))

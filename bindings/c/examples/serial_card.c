@@ -3,7 +3,6 @@
  *
  * The card is the library's, and proved. This program waits for a reset, sends the answer to reset,
  * and passes characters both ways until the next reset. See `serial_card --help`. */
-#include "descriptors.h"
 #include "serial_answer.h"
 #include "serial_options.h"
 #include "serial_t1.h"
@@ -11,11 +10,6 @@
 
 #include <errno.h>
 #include <string.h>
-
-enum { ALL_WELL = 0, FAULT = 1, BAD_WORDS = 2 };
-
-#define NUMBER(number) #number
-#define DOTTED(major, minor, patch) NUMBER(major) "." NUMBER(minor) "." NUMBER(patch)
 
 /* Microseconds between two looks at the line of a reset, and at whether a pseudo terminal was
  * closed. */
@@ -36,14 +30,18 @@ static const char HELP[] =
 #include "serial_card_help.h"
     ;
 
-static const char *const OPTIONS[] = {
-    "-v", "--pty", "--baud", "--reset", "--held-by", "--no-echo", "--plan", "--slack", "-h",
-    "--help", "-V", "--version", NULL
+/* the most plans of a card */
+#define PLANS_LIMIT 64
+
+static bool makes_line;                         /* --pty */
+static const char *plans[PLANS_LIMIT + 1];      /* --plan, in order */
+static struct serial_options options = SERIAL_OPTIONS(PORT_NONE);
+
+static const struct option OPTIONS[] = {
+    { "--pty", OPTION_ON, &makes_line, 0, 0, NO_NAMES },
+    { "--plan", OPTION_WORDS, plans, 0, PLANS_LIMIT, NO_NAMES },
+    SERIAL_ROWS(options, PORT_CTS, PORT_NONE),
 };
-
-static const enum port_signal SIGNALS[] = { PORT_CTS, PORT_DSR, PORT_DCD, PORT_NONE };
-
-static const struct serial_names NAMES = { OPTIONS, SIGNALS, PORT_NONE };
 
 /* Functions return this pointer if the card was reset. */
 static const char IS_RESET[] = "the card was reset";
@@ -58,26 +56,6 @@ struct socket {
     unsigned long baud;         /* at a reset */
     int protocol;               /* T=0 or T=1 */
 };
-
-static int tell(const char *fault)
-{
-    fprintf(stderr, "%s\n", fault);
-    return FAULT;
-}
-
-static int refuse_words(const char *fault)
-{
-    const char *usage = strstr(HELP, "Usage:");
-    fprintf(stderr, "error: %s\n\n%.*s\n\nFor more information, try '--help'.\n", fault,
-            (int)(strstr(usage, "\n\n") - usage), usage);
-    return BAD_WORDS;
-}
-
-/* Flushes what was printed. */
-static int end_output(void)
-{
-    return fflush(stdout) == 0 && !ferror(stdout) ? ALL_WELL : tell("write fault");
-}
 
 /* Looks at the line of a reset. Returns IS_RESET if it is in this state, LINE_IS_GONE if the
  * terminal has closed its end, NULL if neither, or a fault. */
@@ -116,7 +94,7 @@ static const char *await_reset(const struct socket *socket, const char *before)
     if (!port->is_made && (before == LINE_IS_GONE || socket->reset == PORT_NONE))
         return before;
     if (is_mute)
-        tell(before);
+        program_tell(before);
     if (port->is_made) {
         if (is_mute)
             port_await_closing(port);
@@ -363,45 +341,41 @@ static const char *talk(struct socket *socket)
 }
 
 /* Serves one dialogue after another, until no reset can come. */
-static int serve(struct port *port, struct table *table, const gt_atr *says,
-                 const struct serial_options *options)
+static int serve(struct port *port, struct table *table, const gt_atr *says)
 {
-    struct line line = serial_options_line(options, port, LINE_CARD);
+    struct line line = serial_options_line(&options, port, LINE_CARD);
     struct socket socket = { NULL, NULL, NULL, PORT_NONE, false, 0, 0 };
     const char *what = NULL, *fault;
-    if (port->is_made && options->has_echo)
+    if (port->is_made && options.has_echo)
         line.echo = LINE_GIVES_ECHO;
     line.is_inverse = says->convention == GT_INVERSE;
     socket.line = &line;
     socket.table = table;
     socket.says = says;
-    socket.reset = port->is_pseudo ? PORT_NONE : options->reset;
-    socket.is_held_by_on = options->is_held_by_on;
-    socket.baud = options->baud;
+    socket.reset = port->is_pseudo ? PORT_NONE : (enum port_signal)options.reset;
+    socket.is_held_by_on = options.is_held_by_on;
+    socket.baud = options.baud;
     while ((fault = await_reset(&socket, what)) == NULL) {
         what = talk(&socket);
         line_note_text(&line, NULL);
         if (ferror(stdout))
-            return tell("write fault");
+            return program_tell("write fault");
     }
-    return tell(fault);
+    return program_tell(fault);
 }
 
-static int open_and_serve(struct table *table, const gt_atr *says,
-                          const struct serial_options *options)
+static int open_and_serve(struct table *table, const gt_atr *says, const char *tty)
 {
     struct port port;
     int result;
-    const char *fault = options->makes_line
-        ? port_make(&port)
-        : port_open(&port, options->words[0], options->baud);
+    const char *fault = makes_line ? port_make(&port) : port_open(&port, tty, options.baud);
     if (fault != NULL)
-        return tell(fault);
-    if (options->makes_line)
+        return program_tell(fault);
+    if (makes_line)
         printf("%s\n", port.name);
-    result = end_output();
+    result = program_end_output();
     if (result == ALL_WELL)
-        result = serve(&port, table, says, options);
+        result = serve(&port, table, says);
     port_close(&port);
     return result;
 }
@@ -429,27 +403,33 @@ static const char *read_answer(const struct table *table, gt_atr *says)
 }
 
 /* Adds the plans. A word with another letter is refused. */
-static int add_plans(gt_card *card, const struct serial_options *options)
+static int add_plans(gt_card *card)
 {
     size_t i;
-    for (i = 0; i < options->plan_count; i++) {
-        const int32_t code = gt_card_plan(card, options->plans[i], PLAN_CUT);
+    for (i = 0; plans[i] != NULL; i++) {
+        const int32_t code = gt_card_plan(card, plans[i], PLAN_CUT);
         if (code == GT_ARGUMENT)
-            return refuse_words("a plan has the letters n, o and a");
+            return program_refuse("a plan has the letters n, o and a");
         if (code != GT_OK)
-            return tell(gt_text(code));
+            return program_tell(gt_text(code));
     }
     return ALL_WELL;
 }
 
-static int run(const struct serial_options *options)
+static int run(char *const *words, size_t count)
 {
+    const size_t wanted = makes_line ? 1 : 2;
+    const char *name, *fault;
     struct table table = TABLE_INIT;
     gt_atr says;
-    const char *name = options->words[options->count - 1], *fault;
-    FILE *file = fopen(name, "r");
+    FILE *file;
     int32_t code;
     int result;
+    if (count != wanted)
+        return program_refuse(count > wanted ? "there are too many words"
+                                             : "no tty or no table was provided");
+    name = words[wanted - 1];
+    file = fopen(name, "r");
     if (file == NULL) {
         fprintf(stderr, "%s: %s\n", name, strerror(errno));
         return FAULT;
@@ -459,36 +439,18 @@ static int run(const struct serial_options *options)
     if (code != GT_OK)
         return FAULT;
     fault = read_answer(&table, &says);
-    result = fault == NULL ? add_plans(&table.card, options) : tell(fault);
+    result = fault == NULL ? add_plans(&table.card) : program_tell(fault);
     if (result == ALL_WELL)
-        result = open_and_serve(&table, &says, options);
+        result = open_and_serve(&table, &says, words[0]);
     gt_card_free(&table.card);
     return result;
 }
 
-static int run_options(const struct serial_options *options)
-{
-    const size_t wanted = options->makes_line ? 1 : 2;
-    if (options->helps) {
-        fputs(HELP, stdout);
-        return end_output();
-    }
-    if (options->tells_version) {
-        printf("serial_card %s\n", DOTTED(GT_VERSION_MAJOR, GT_VERSION_MINOR, GT_VERSION_PATCH));
-        return end_output();
-    }
-    if (options->count != wanted)
-        return refuse_words(options->count > wanted ? "there are too many words"
-                                                    : "no tty or no table was provided");
-    return run(options);
-}
+static const struct program PROGRAM = {
+    "serial_card", HELP, OPTIONS, 1, { "", " is not an option" }, { "", " needs a value" }, run
+};
 
 int main(int argc, char **argv)
 {
-    struct serial_options options;
-    const char *fault;
-    if (!descriptors_fill())
-        return FAULT;
-    fault = serial_options_read(&options, &NAMES, argc, argv);
-    return fault != NULL ? refuse_words(fault) : run_options(&options);
+    return program_main(&PROGRAM, argc, argv);
 }

@@ -4,112 +4,97 @@
 #define _POSIX_C_SOURCE 200112L
 
 #include "carrier.h"
-#include "descriptors.h"
-#include "options.h"
+#include "program.h"
 #include "steps.h"
 
 #include <stdio.h>
-#include <string.h>
 #include <unistd.h>
-
-enum { ALL_WELL = 0, FAULT = 1, BAD_WORDS = 2 };
 
 /* the lines of gt_pcsc.help */
 static const char HELP[] =
 #include "gt_pcsc_help.h"
     ;
 
-static int tell(const char *fault)
-{
-    fprintf(stderr, "%s\n", fault);
-    return FAULT;
-}
+static bool lists, shows_tpdus, forces_apdus;
+static const char *reader_name, *file, *seconds, *protocol_word;
+static struct steps steps = { carrier_pass, NULL, false, false };
 
-static int refuse_words(const char *fault)
-{
-    const char *usage = strstr(HELP, "Usage:");
-    fprintf(stderr, "error: %s\n\n%.*s\n\nFor more information, try '--help'.\n", fault,
-            (int)strcspn(usage, "\n"), usage);
-    return BAD_WORDS;
-}
+static const struct option OPTIONS[] = {
+    { "-l", OPTION_ON, &lists, 0, 0, NO_NAMES },
+    { "-v", OPTION_ON, &shows_tpdus, 0, 0, NO_NAMES },
+    { "-k", OPTION_ON, &steps.goes_on, 0, 0, NO_NAMES },
+    { "-r", OPTION_WORD, &reader_name, 0, 0, NO_NAMES },
+    { "-f", OPTION_WORD, &file, 0, 0, NO_NAMES },
+    { "--verify", OPTION_ON, &steps.verifies, 0, 0, NO_NAMES },
+    { "--protocol", OPTION_WORD, &protocol_word, 0, 0, NO_NAMES },
+    { "--apdu", OPTION_ON, &forces_apdus, 0, 0, NO_NAMES },
+    { "--wait", OPTION_WORD, &seconds, 0, 0, NO_NAMES },
+    { NULL, OPTION_ON, NULL, 0, 0, NO_NAMES },
+};
 
-/* Flushes what was printed. */
-static int end_output(void)
-{
-    return fflush(stdout) == 0 && !ferror(stdout) ? ALL_WELL : tell("write fault");
-}
-
-static int list_readers(void)
-{
-    const char *fault = reader_list(stdout);
-    return fault == NULL ? end_output() : tell(fault);
-}
-
-/* Shows the level, and carries out the steps. */
-static int run_over(struct carrier *carrier, const struct script *script,
-                    const struct options *options)
-{
-    struct steps steps = { GT_INIT, carrier_pass, NULL, false, false };
-    const char *fault = carrier_show_level(carrier);
-    const int32_t code = gt_terminal_new(&steps.terminal);
-    int result;
-    if (code != GT_OK)
-        fault = gt_text(code);
-    steps.line = carrier;
-    steps.goes_on = options->goes_on;
-    steps.verifies = options->verifies;
-    if (fault != NULL)
-        result = tell(fault);
-    else
-        result = steps_carry_out(&steps, script) ? ALL_WELL : FAULT;
-    gt_terminal_free(&steps.terminal);
-    return result;
-}
+/* The most seconds of --wait: a day, with at most five digits. */
+enum { WAIT_LIMIT = 86400 };
 
 /* Opens the reader, carries out the steps, and closes it, whatever their result. */
-static int run(const struct script *script, const struct options *options)
+static int run_steps(const struct script *script, int protocol, long wait)
 {
     struct reader reader;
     struct carrier carrier;
-    const char *fault = reader_open(&reader, options->reader, options->protocol, options->wait);
+    const char *fault = reader_open(&reader, reader_name, protocol, wait);
     int result;
     carrier.reader = &reader;
-    carrier.is_by_apdus = options->forces_apdus || reader_takes_apdus(&reader);
-    carrier.shown = options->shows_tpdus ? stdout : NULL;
-    carrier.progress = isatty(STDERR_FILENO) && !options->shows_tpdus ? stderr : NULL;
-    result = fault != NULL ? tell(fault) : run_over(&carrier, script, options);
+    carrier.is_by_apdus = forces_apdus || reader_takes_apdus(&reader);
+    carrier.shown = shows_tpdus ? stdout : NULL;
+    carrier.progress = isatty(STDERR_FILENO) && !shows_tpdus ? stderr : NULL;
+    steps.line = &carrier;
+    if (fault == NULL)
+        fault = carrier_show_level(&carrier);
+    result = fault != NULL ? program_tell(fault) : steps_carry_out(&steps, script);
     fault = reader_close(&reader);
-    return result == ALL_WELL && fault != NULL ? tell(fault) : result;
+    return result == ALL_WELL && fault != NULL ? program_tell(fault) : result;
 }
 
-static int run_options(const struct options *options)
+static int list_readers(bool is_alone)
+{
+    const char *fault;
+    if (!is_alone)
+        return program_refuse("-l cannot be used with operations, -r or -f");
+    fault = reader_list(stdout);
+    return fault == NULL ? program_end_output() : program_tell(fault);
+}
+
+static int run(char *const *words, size_t count)
 {
     struct script script;
     struct script_refusal refusal;
+    const long wait = seconds != NULL ? (long)program_number(seconds, 5, WAIT_LIMIT) : -1;
+    const int protocol = protocol_word != NULL ? (int)program_number(protocol_word, 1, 1) : -1;
     int result;
-    if (options->helps) {
-        fputs(HELP, stdout);
-        return end_output();
-    }
-    if (options->tells_version) {
-        printf("gt_pcsc %s\n", GT_PCSC_VERSION);
-        return end_output();
-    }
-    if (options->lists)
-        return list_readers();
-    if (!script_read(&script, options->file, options->words, options->count, &refusal))
-        return refusal.is_of_words ? refuse_words(refusal.text) : tell(refusal.text);
-    result = run(&script, options);
+    if (lists)
+        return list_readers(count == 0 && file == NULL && reader_name == NULL);
+    if (file != NULL && count > 0)
+        return program_refuse("operations are either words or in FILE");
+    if (file == NULL && count == 0)
+        return program_refuse("no operation was provided");
+    if (wait > WAIT_LIMIT)
+        return program_refuse("'--wait' takes a number from 0 to 86400");
+    if (protocol > 1)
+        return program_refuse("'--protocol' takes 0 or 1");
+    if (!script_read(&script, file, words, count, &refusal))
+        return refusal.is_of_words ? program_refuse(refusal.text) : program_tell(refusal.text);
+    result = run_steps(&script, protocol, wait);
     script_free(&script);
     return result;
 }
 
+static const struct program PROGRAM = {
+    "gt_pcsc", HELP, OPTIONS, 0,
+    { "unexpected argument ", " found" },
+    { "a value is required for ", " but none was supplied" },
+    run
+};
+
 int main(int argc, char **argv)
 {
-    struct options options;
-    const char *fault;
-    if (!descriptors_fill())
-        return FAULT;
-    fault = options_read(&options, argc, argv);
-    return fault != NULL ? refuse_words(fault) : run_options(&options);
+    return program_main(&PROGRAM, argc, argv);
 }

@@ -1,7 +1,6 @@
 /* gt_serial: a terminal for the card in a Phoenix or Smartmouse reader at a tty. The library's
  * terminal is proved. This program resets the card, reads its answer, and passes characters both
  * ways, each within the line's times. `gt_serial --help` says what it does. */
-#include "descriptors.h"
 #include "print.h"
 #include "serial_answer.h"
 #include "serial_options.h"
@@ -10,24 +9,30 @@
 
 #include <string.h>
 
-enum { ALL_WELL = 0, FAULT = 1, BAD_WORDS = 2 };
-
-#define NUMBER(number) #number
-#define DOTTED(major, minor, patch) NUMBER(major) "." NUMBER(minor) "." NUMBER(patch)
-
 /* the lines of gt_serial.help */
 static const char HELP[] =
 #include "gt_serial_help.h"
     ;
 
-static const char *const OPTIONS[] = {
-    "-v", "-k", "-f", "--baud", "--reset", "--held-by", "--no-echo", "--protocol", "--pps",
-    "--slack", "--quiet", "--patience", "--verify", "-h", "--help", "-V", "--version", NULL
+static bool asks_pps;
+static unsigned long protocol = 2;      /* --protocol; 2 without it */
+static unsigned long patience = 600;    /* --patience, in seconds */
+static const char *file;                /* -f, or NULL */
+static struct serial_options options = SERIAL_OPTIONS(PORT_RTS);
+
+static const char *pass(void *line, gt_terminal *terminal, const struct operation *operation);
+static struct steps steps = { pass, NULL, false, false };
+
+static const struct option OPTIONS[] = {
+    { "-k", OPTION_ON, &steps.goes_on, 0, 0, NO_NAMES },
+    { "-f", OPTION_WORD, &file, 0, 0, NO_NAMES },
+    { "--verify", OPTION_ON, &steps.verifies, 0, 0, NO_NAMES },
+    { "--protocol", OPTION_NUMBER, &protocol, 0, 1, NO_NAMES },
+    { "--pps", OPTION_ON, &asks_pps, 0, 0, NO_NAMES },
+    { "--quiet", OPTION_NUMBER, &options.quiet, LINE_LATE, 1000, NO_NAMES },
+    { "--patience", OPTION_NUMBER, &patience, 1, 86400, NO_NAMES },
+    SERIAL_ROWS(options, PORT_NONE, PORT_DTR),
 };
-
-static const enum port_signal SIGNALS[] = { PORT_RTS, PORT_DTR, PORT_NONE };
-
-static const struct serial_names NAMES = { OPTIONS, SIGNALS, PORT_RTS };
 
 static const char CUT_SHORT[] = "the card ended the command before it took the data";
 
@@ -39,26 +44,6 @@ struct session {
     struct t1_end t1;           /* its end at T=1, if the protocol is T=1 */
     uint8_t status[2];          /* the last two bytes of the card at T=0 */
 };
-
-static int tell(const char *fault)
-{
-    fprintf(stderr, "%s\n", fault);
-    return FAULT;
-}
-
-static int refuse_words(const char *fault)
-{
-    const char *usage = strstr(HELP, "Usage:");
-    fprintf(stderr, "error: %s\n\n%.*s\n\nFor more information, try '--help'.\n", fault,
-            (int)strcspn(usage, "\n"), usage);
-    return BAD_WORDS;
-}
-
-/* Flushes what was printed. */
-static int end_output(void)
-{
-    return fflush(stdout) == 0 && !ferror(stdout) ? ALL_WELL : tell("write fault");
-}
 
 /* A command begins, and must end in time. */
 static void begin_command(const struct session *session)
@@ -235,94 +220,66 @@ static const char *begin_t1(struct session *session, const struct answer *answer
 }
 
 /* Continues with the protocol of --protocol, or the one that the card offers first. */
-static const char *go_on(struct session *session, struct answer *answer,
-                         const struct serial_options *options)
+static const char *go_on(struct session *session, struct answer *answer)
 {
-    const char *fault =
-        answer_go_on(answer, answer_protocol(&answer->says, options->protocol),
-                     options->asks_pps, &session->waiting_time);
+    const int wanted = protocol <= 1 ? (int)protocol : ANSWER_FIRST;
+    const char *fault = answer_go_on(answer, answer_protocol(&answer->says, wanted), asks_pps,
+                                     &session->waiting_time);
     return fault == NULL && session->line->is_of_blocks ? begin_t1(session, answer) : fault;
 }
 
 /* Resets the card, and carries out the steps with it. */
-static int run_over(struct port *port, const struct script *script,
-                    const struct serial_options *options)
+static int run_over(struct port *port, const struct script *script)
 {
-    struct line line = serial_options_line(options, port, LINE_TERMINAL);
+    struct line line = serial_options_line(&options, port, LINE_TERMINAL);
     struct session session = { NULL, 0, 0, { NULL, { 0, 0, 0 }, GT_INIT }, { 0, 0 } };
-    struct steps steps = { GT_INIT, pass, NULL, false, false };
     struct answer answer;
     struct answer_wishes wishes;
     const char *fault;
     int result;
-    const int32_t code = gt_terminal_new(&steps.terminal);
-    if (code != GT_OK)
-        return tell(gt_text(code));
     steps.line = &session;
-    steps.goes_on = options->goes_on;
-    steps.verifies = options->verifies;
     session.line = &line;
-    session.patience = (int64_t)options->patience * 1000000;
-    wishes.reset = options->reset;
-    wishes.is_held_by_on = options->is_held_by_on;
+    session.patience = (int64_t)patience * 1000000;
+    wishes.reset = (enum port_signal)options.reset;
+    wishes.is_held_by_on = options.is_held_by_on;
     wishes.patience = session.patience;
     fault = answer_take(&answer, &line, &wishes);
     if (fault == NULL && script->count == 0)
         fault = print_meaning(&answer);
     if (fault == NULL)
-        fault = go_on(&session, &answer, options);
-    if (fault != NULL)
-        result = tell(fault);
-    else
-        result = steps_carry_out(&steps, script) ? ALL_WELL : FAULT;
+        fault = go_on(&session, &answer);
+    result = fault != NULL ? program_tell(fault) : steps_carry_out(&steps, script);
     gt_t1_free(&session.t1.end);
-    gt_terminal_free(&steps.terminal);
     return result;
 }
 
-static int run(const struct script *script, const struct serial_options *options)
-{
-    struct port port;
-    const char *fault = port_open(&port, options->words[0], options->baud);
-    int result;
-    if (fault != NULL)
-        return tell(fault);
-    result = run_over(&port, script, options);
-    port_close(&port);
-    return result;
-}
-
-static int run_options(const struct serial_options *options)
+/* The first word is the tty. */
+static int run(char *const *words, size_t count)
 {
     struct script script;
     struct script_refusal refusal;
+    struct port port;
+    const char *fault;
     int result;
-    if (options->helps) {
-        fputs(HELP, stdout);
-        return end_output();
-    }
-    if (options->tells_version) {
-        printf("gt_serial %s\n",
-               DOTTED(GT_VERSION_MAJOR, GT_VERSION_MINOR, GT_VERSION_PATCH));
-        return end_output();
-    }
-    if (options->count == 0)
-        return refuse_words("no tty was provided");
-    if (options->file != NULL && options->count > 1)
-        return refuse_words("operations are either words or in FILE");
-    if (!script_read(&script, options->file, options->words + 1, options->count - 1, &refusal))
-        return refusal.is_of_words ? refuse_words(refusal.text) : tell(refusal.text);
-    result = run(&script, options);
+    if (count == 0)
+        return program_refuse("no tty was provided");
+    if (file != NULL && count > 1)
+        return program_refuse("operations are either words or in FILE");
+    if (!script_read(&script, file, words + 1, count - 1, &refusal))
+        return refusal.is_of_words ? program_refuse(refusal.text) : program_tell(refusal.text);
+    fault = port_open(&port, words[0], options.baud);
+    result = fault != NULL ? program_tell(fault) : run_over(&port, &script);
+    if (fault == NULL)
+        port_close(&port);
     script_free(&script);
     return result;
 }
 
+static const struct program PROGRAM = {
+    "gt_serial", HELP, OPTIONS, 1, { "", " is not an option" }, { "", " needs a value" }, run
+};
+
 int main(int argc, char **argv)
 {
-    struct serial_options options;
-    const char *fault;
-    if (!descriptors_fill())
-        return FAULT;
-    fault = serial_options_read(&options, &NAMES, argc, argv);
-    return fault != NULL ? refuse_words(fault) : run_options(&options);
+    return program_main(&PROGRAM, argc, argv);
 }

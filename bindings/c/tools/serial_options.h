@@ -1,50 +1,37 @@
-/* The requests of the command lines of gt_serial and serial_card. */
+/* The options of command lines that gt_serial and serial_card share. */
 #ifndef SERIAL_OPTIONS_H
 #define SERIAL_OPTIONS_H
 
-#include "serial_answer.h"
-
-#include <stdbool.h>
-#include <stddef.h>
-#include <stdint.h>
-
-/* the most plans of a card */
-#define SERIAL_PLANS_LIMIT 64
+#include "program.h"
+#include "serial_line.h"
 
 struct serial_options {
-    bool helps, tells_version;
-    bool is_traced;             /* -v */
-    bool goes_on;               /* -k */
-    bool verifies;              /* --verify */
-    bool has_echo;              /* not --no-echo */
-    bool asks_pps;              /* --pps */
-    int protocol;               /* --protocol, or ANSWER_FIRST */
-    bool makes_line;            /* --pty */
-    bool is_held_by_on;         /* not --held-by off */
-    enum port_signal reset;     /* --reset */
-    unsigned long baud;         /* --baud */
-    unsigned long slack;        /* --slack, in milliseconds */
-    unsigned long quiet;        /* --quiet, in milliseconds */
-    unsigned long patience;     /* --patience, in seconds */
-    const char *file;           /* -f, or NULL */
-    const char *plans[SERIAL_PLANS_LIMIT];  /* --plan, in order */
-    size_t plan_count;
-    char *const *words;         /* those that are not options */
-    size_t count;
+    bool is_traced;         /* -v */
+    bool has_echo;          /* not --no-echo */
+    int reset;              /* --reset: an enum port_signal */
+    int is_held_by_on;      /* not --held-by off */
+    unsigned long baud;     /* --baud */
+    unsigned long slack;    /* --slack, in milliseconds */
+    unsigned long quiet;    /* --quiet, which gt_serial alone has, in milliseconds */
 };
 
-/* The part of these that a program has. */
-struct serial_names {
-    const char *const *options;         /* its options, with a NULL after them */
-    const enum port_signal *signals;    /* what --reset may name, PORT_NONE as the last */
-    enum port_signal reset;             /* its value if the command line has no --reset */
-};
+/* Their values on a command line without options. */
+#define SERIAL_OPTIONS(reset) { false, true, reset, true, 9600, 200, LINE_LATE }
 
-/* Reads the words after the program's name. Options may be anywhere before `--`, but the word after
- * `put TAG` is a value. Moves the other words to the front of `argv`. Returns NULL, or a text that
- * says why it refuses the words, which stays until the next call. */
-const char *serial_options_read(struct serial_options *options, const struct serial_names *names,
-                                int argc, char **argv);
+/* The names of signals and states, in the order of their numbers. */
+extern const char *const SERIAL_SIGNALS[], *const SERIAL_STATES[];
+
+/* Their rows, if --reset takes these signals. */
+#define SERIAL_ROWS(its, first, last) \
+    { "-v", OPTION_ON, &its.is_traced, 0, 0, NO_NAMES }, \
+    { "--no-echo", OPTION_OFF, &its.has_echo, 0, 0, NO_NAMES }, \
+    { "--reset", OPTION_NAME, &its.reset, first, last, SERIAL_SIGNALS, \
+      " is not a line for '--reset'" }, \
+    { "--held-by", OPTION_NAME, &its.is_held_by_on, 0, 1, SERIAL_STATES, \
+      " is neither 'on' nor 'off'" }, \
+    { "--baud", OPTION_NUMBER, &its.baud, 1200, 1000000, NO_NAMES }, \
+    { "--slack", OPTION_NUMBER, &its.slack, 0, 60000, NO_NAMES }, \
+    { NULL, OPTION_ON, NULL, 0, 0, NO_NAMES }
 
 /* The line of one end, as the options have it, over this port. */
 struct line serial_options_line(const struct serial_options *options, struct port *port,

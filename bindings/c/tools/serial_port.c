@@ -303,12 +303,12 @@ static const struct {
     const char *name;
     int bit;
 } SIGNALS[] = {
-    { "", 0 },
-    { "RTS", TIOCM_RTS },
-    { "DTR", TIOCM_DTR },
     { "CTS", TIOCM_CTS },
     { "DSR", TIOCM_DSR },
     { "DCD", TIOCM_CAR },
+    { "", 0 },
+    { "RTS", TIOCM_RTS },
+    { "DTR", TIOCM_DTR },
 };
 
 const char *port_look(const struct port *port, enum port_signal signal, bool *is_on)

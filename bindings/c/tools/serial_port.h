@@ -11,9 +11,9 @@
 /* the most bytes of a pseudo terminal's name, its NUL included */
 #define PORT_NAME_ROOM 64
 
-/* The lines of a tty beside the two that carry characters. The tty drives the first two, and reads
- * the others. */
-enum port_signal { PORT_NONE, PORT_RTS, PORT_DTR, PORT_CTS, PORT_DSR, PORT_DCD };
+/* The lines of a tty beside the two that carry characters. The tty reads the first three, and drives
+ * the last two. */
+enum port_signal { PORT_CTS, PORT_DSR, PORT_DCD, PORT_NONE, PORT_RTS, PORT_DTR };
 
 struct port {
     int fd;

@@ -1,51 +1,57 @@
 #include "steps.h"
 #include "print.h"
+#include "program.h"
 
 #include <stdio.h>
 
-enum outcome { WELL, NOT_AS_WANTED, FAULT };
+enum outcome { WELL, NOT_AS_WANTED, FAILED };
 
 /* Begins an operation, and passes it to its answer. */
-static const char *carry_out(struct steps *steps, const struct operation *operation)
+static const char *carry_out(const struct steps *steps, gt_terminal *terminal,
+                             const struct operation *operation)
 {
-    const int32_t code = operation_begin(operation, &steps->terminal);
-    return code == GT_OK ? steps->pass(steps->line, &steps->terminal, operation) : gt_text(code);
+    const int32_t code = operation_begin(operation, terminal);
+    return code == GT_OK ? steps->pass(steps->line, terminal, operation) : gt_text(code);
 }
 
 /* Carries out one step. `fault` gets the text on it, or NULL. */
-static enum outcome carry_out_step(struct steps *steps, const struct operation *operation,
-                                   const char **fault)
+static enum outcome carry_out_step(const struct steps *steps, gt_terminal *terminal,
+                                   const struct operation *operation, const char **fault)
 {
     const struct operation get = { OPERATION_GET, operation->tag, NULL, 0 };
     uint16_t status = 0;
-    *fault = carry_out(steps, operation);
+    *fault = carry_out(steps, terminal, operation);
     if (*fault == NULL)
-        *fault = print_answer(stdout, &steps->terminal, &status);
+        *fault = print_answer(stdout, terminal, &status);
     if (*fault != NULL)
-        return FAULT;
-    *fault = operation_answer_fault(operation, &steps->terminal);
+        return FAILED;
+    *fault = operation_answer_fault(operation, terminal);
     if (steps->verifies && operation->kind == OPERATION_PUT && status == 0x9000) {
-        *fault = carry_out(steps, &get);
+        *fault = carry_out(steps, terminal, &get);
         if (*fault != NULL)
-            return FAULT;
-        *fault = operation_store_fault(operation, &steps->terminal);
+            return FAILED;
+        *fault = operation_store_fault(operation, terminal);
     }
     return *fault == NULL && status == 0x9000 ? WELL : NOT_AS_WANTED;
 }
 
-bool steps_carry_out(struct steps *steps, const struct script *script)
+int steps_carry_out(const struct steps *steps, const struct script *script)
 {
+    gt_terminal terminal = GT_INIT;
+    const int32_t code = gt_terminal_new(&terminal);
+    enum outcome outcome = WELL;
     bool is_well = true;
     size_t i;
-    for (i = 0; i < script->count && (is_well || steps->goes_on); i++) {
+    if (code != GT_OK)
+        return program_tell(gt_text(code));
+    for (i = 0; i < script->count && outcome != FAILED && (is_well || steps->goes_on); i++) {
         const struct step *step = &script->steps[i];
         const char *fault;
-        const enum outcome outcome = carry_out_step(steps, &step->operation, &fault);
+        outcome = carry_out_step(steps, &terminal, &step->operation, &fault);
         if (fault != NULL)
             fprintf(stderr, "%s %lu: %s\n", script->unit, (unsigned long)step->number, fault);
-        if (outcome == FAULT)
-            return false;
         is_well = is_well && outcome == WELL;
     }
-    return is_well;
+    gt_terminal_free(&terminal);
+    return is_well ? ALL_WELL : FAULT;
 }

@@ -5,9 +5,8 @@
 
 #include "script.h"
 
-/* A terminal, and what carries its characters or commands. */
+/* What carries a terminal's characters or commands, and how it continues. */
 struct steps {
-    gt_terminal terminal;
     /* Passes what the operation in progress sends and receives, until it has its answer. Returns
      * NULL, or words that say what went wrong: then nothing is known of the card. */
     const char *(*pass)(void *line, gt_terminal *terminal, const struct operation *operation);
@@ -18,8 +17,8 @@ struct steps {
 
 /* Carries out the steps of a script, and prints each answer. It stops at a fault, and without
  * `goes_on` at the first answer that is not 9000 or not what the step asks for. It sends nothing
- * twice, except what the exchange of a command repeats after 6CXX. Returns true if all went well;
- * otherwise standard error says what did not, unless the status that was printed does. */
-bool steps_carry_out(struct steps *steps, const struct script *script);
+ * twice, except what the exchange of a command repeats after 6CXX. Returns the exit status: if that
+ * is FAULT, standard error says why, unless the status that was printed does. */
+int steps_carry_out(const struct steps *steps, const struct script *script);
 
 #endif

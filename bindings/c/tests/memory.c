@@ -2,6 +2,7 @@
  * GT_MEMORY changes nothing, and works once there is memory. At the end all of it is free. No
  * handle takes more than the header says where it declares them. */
 #include "galliumtoad.h"
+#include "block.h"
 #include "check.h"
 #include "counting_heap.h"
 
@@ -148,18 +149,6 @@ static void of_a_card(void) {
     GETS(gt_card_apdu(&card, BYTES("\x00\xCA\x5F\x20\x00"), data, 258, &n), GT_OK);
     CHECK_BYTES(data, "\x5F\x20\x03JOE\x90\x00", 8);
     gt_card_free(&card);
-}
-
-/* Writes a block of T=1 with this PCB and field, and returns its length. */
-static size_t block_of(uint8_t block[GT_BLOCK_LIMIT], uint8_t pcb, const uint8_t *info, size_t m) {
-    size_t i;
-    block[0] = 0;
-    block[1] = pcb;
-    block[2] = (uint8_t)m;
-    if (m > 0) memcpy(block + 3, info, m);
-    block[m + 3] = 0;
-    for (i = 0; i < m + 3; i++) block[m + 3] ^= block[i];
-    return m + 4;
 }
 
 /* Without memory for a block the end keeps its bytes, and takes it by the next call. */

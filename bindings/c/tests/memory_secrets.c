@@ -1,6 +1,7 @@
 /* Tests that no block of memory, held or freed, has a piece of a value that the card no longer
  * holds, however the value's chain ended. The linker replaces malloc and free in heap.c. */
 #include "galliumtoad.h"
+#include "block.h"
 #include "check.h"
 
 enum { PIECE = 255, LONG = 600, FRONT = 4, FIELD = 254 };
@@ -161,18 +162,6 @@ static void in_a_session(gt_card *c) {
     CHECK(gt_session_end(&s, c), GT_OK);
     GONE();
     CHECK(select_app(c), 0x610B);
-}
-
-/* Writes a block of T=1 with this PCB and field, and returns its length. */
-static size_t block_of(uint8_t block[GT_BLOCK_LIMIT], uint8_t pcb, const uint8_t *info, size_t n) {
-    size_t i;
-    block[0] = 0;
-    block[1] = pcb;
-    block[2] = (uint8_t)n;
-    memcpy(block + 3, info, n);
-    block[n + 3] = 0;
-    for (i = 0; i < n + 3; i++) block[n + 3] ^= block[i];
-    return n + 4;
 }
 
 /* Gives the terminal's end at T=1 this block from the card. */

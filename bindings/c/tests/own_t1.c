@@ -2,6 +2,7 @@
  * ISO/IEC 7816-3, clause 11: it chains commands, damages blocks, asks for blocks again, resets, and
  * drops commands while they wait. The card asks for more time. A model of the rules in the header
  * says what goes out, and which command is next. */
+#include "block.h"
 #include "own_model.h"
 
 /* The PCB of blocks, and what R reports (ISO/IEC 7816-3, 11.3.2). */
@@ -20,16 +21,12 @@ static int dropped, extended, again, abandoned;
 /* The card gets a block with this PCB and field. */
 static void to_card(uint8_t pcb, const uint8_t *field, size_t n) {
     uint8_t bytes[GT_BLOCK_LIMIT];
-    size_t i, at, taken = 0;
-    bytes[0] = 0;
-    bytes[1] = pcb;
-    bytes[2] = (uint8_t)n;
-    bytes[3 + n] = (uint8_t)(pcb ^ n);
-    for (i = 0; i < n; i++) bytes[3 + n] ^= bytes[3 + i] = field[i];
-    for (at = 0; at < n + 4 && failed == 0; at += taken) {
-        const size_t piece = 1 + any(n + 4 - at);
+    const size_t size = block_of(bytes, pcb, field, n);
+    size_t at, taken = 0;
+    for (at = 0; at < size && failed == 0; at += taken) {
+        const size_t piece = 1 + any(size - at);
         CHECK(gt_card_t1_receive_bytes(&card, bytes + at, piece, &taken),
-              at + piece < n + 4 ? GT_OK : GT_SENDS);
+              at + piece < size ? GT_OK : GT_SENDS);
         CHECK(taken, piece);
     }
 }

@@ -4,7 +4,7 @@
  * - `>` and a block that the card sends: PCB and field
  * - `<` and a block that it gets; `#` with a wrong LRC; `-` without its end
  * - `~`, nothing comes; `?`, the parity is wrong. */
-#include "galliumtoad.h"
+#include "block.h"
 #include "check.h"
 
 #include <stdlib.h>
@@ -30,25 +30,21 @@ static const char *const DIALOGUES[] = {
 static gt_card card;
 static uint8_t block[GT_BLOCK_LIMIT + 1];
 
-/* Writes a block with this PCB and field. Its LRC makes the exclusive-or of all bytes 00. */
-static size_t block_of(const char *digits) {
-    const size_t count = strlen(digits) / 2, n = count + 2;
+/* Writes the block of these digits: PCB and field. */
+static size_t block_of_digits(const char *digits) {
+    const size_t count = strlen(digits) / 2;
+    uint8_t bytes[GT_BLOCK_LIMIT];
     size_t i;
     for (i = 0; i < count; i++) {
         const char two[3] = { digits[2 * i], digits[2 * i + 1], '\0' };
-        block[i + 2] = (uint8_t)strtoul(two, NULL, 16);
+        bytes[i] = (uint8_t)strtoul(two, NULL, 16);
     }
-    block[0] = 0;
-    block[1] = block[2];
-    block[2] = (uint8_t)(count - 1);
-    block[n] = 0;
-    for (i = 0; i < n; i++) block[n] ^= block[i];
-    return n + 1;
+    return block_of(block, bytes[0], bytes + 1, count - 1);
 }
 
 static void sends(const char *digits) {
     uint8_t want[GT_BLOCK_LIMIT + 1];
-    const size_t n = block_of(digits);
+    const size_t n = block_of_digits(digits);
     size_t count = 0;
     memcpy(want, block, n);
     memset(block, 0xEE, sizeof block);
@@ -69,7 +65,7 @@ static void hears(const uint8_t *bytes, size_t n, int32_t code, size_t want) {
 }
 
 static void comes(char kind, const char *digits) {
-    const size_t n = block_of(digits);
+    const size_t n = block_of_digits(digits);
     if (kind == '#') block[n - 1] ^= 1;
     hears(block, 3, GT_OK, 3);
     if (kind != '-') hears(block + 3, n - 2, GT_SENDS, n - 3);

@@ -239,40 +239,33 @@ fn versions_are_looked_at_once() {
         exchange_start_within(_, bytes, 7, 16_384), exchange_free(_));
 }
 
+/// As `hands!`, for one call of a function whose name begins with that of its end.
+macro_rules! hands_of {
+    ($end:literal, $call:expr => $name:ident($($argument:tt),*)) => {{
+        let name = concat!($end, "_", stringify!($name));
+        hands(|| $call, &[(name, &[$(hands!(@ $argument)),*][..])])
+    }};
+}
+
 /// The calls that an exchange and an operation of a terminal share.
 macro_rules! passes {
     ($it:ident, $end:literal) => {
         let (bytes, mut room, mut longer) = (at(&BYTES), [0; 260], [0; 261]);
         let (space, most) = (at(&room), at(&longer));
-        hands(|| $it.turn(), &[(concat!($end, "_next"), &[ANY; 2])]);
-        hands(|| $it.take(0xC3), &[(concat!($end, "_take"), &[ANY, 0xC3])]);
-        hands(|| $it.data_sent(), &[(concat!($end, "_data_sent"), &[ANY])]);
-        let tpdu = concat!($end, "_tpdu");
-        hands(|| $it.tpdu(), &[(tpdu, &[ANY, ANY, 261, ANY, ANY])]);
-        hands(
-            || $it.tpdu_into(&mut room),
-            &[(tpdu, &[ANY, space, 260, ANY, ANY])],
-        );
-        let apdu = &[ANY, most, 261, ANY, ANY];
-        hands(
-            || $it.apdu_into(&mut longer),
-            &[(concat!($end, "_apdu"), apdu)],
-        );
-        let given = &[ANY, bytes, 7];
-        hands(
-            || $it.answered(&BYTES),
-            &[(concat!($end, "_answered"), given)],
-        );
-        hands(
-            || $it.responded(&BYTES),
-            &[(concat!($end, "_responded"), given)],
-        );
-        let answer = concat!($end, "_answer");
-        hands(|| $it.answer(), &[(answer, &[ANY, ANY, ANY, 0, ANY])]);
-        hands(
-            || $it.answer_into(&mut room),
-            &[(answer, &[ANY, ANY, space, 260, ANY])],
-        );
+        hands_of!($end, $it.turn() => next(_, _));
+        hands_of!($end, $it.take(0xC3) => take(_, 0xC3));
+        hands_of!($end, $it.send_bytes(&mut room) => send_bytes(_, space, 260, _));
+        hands_of!($end, $it.send_bytes(&mut []) => send_bytes(_, _, 0, _));
+        hands_of!($end, $it.receive_bytes(&BYTES) => receive_bytes(_, bytes, 7, _));
+        hands_of!($end, $it.receive_bytes(&[]) => receive_bytes(_, _, 0, _));
+        hands_of!($end, $it.data_sent() => data_sent(_));
+        hands_of!($end, $it.tpdu() => tpdu(_, _, 261, _, _));
+        hands_of!($end, $it.tpdu_into(&mut room) => tpdu(_, space, 260, _, _));
+        hands_of!($end, $it.apdu_into(&mut longer) => apdu(_, most, 261, _, _));
+        hands_of!($end, $it.answered(&BYTES) => answered(_, bytes, 7));
+        hands_of!($end, $it.responded(&BYTES) => responded(_, bytes, 7));
+        hands_of!($end, $it.answer() => answer(_, _, _, 0, _));
+        hands_of!($end, $it.answer_into(&mut room) => answer(_, _, space, 260, _));
     };
 }
 
@@ -390,26 +383,8 @@ fn of_limits() {
     tell(0);
 }
 
-/// Each end by buffers. An empty buffer is passed on as an empty one.
-#[test]
-fn of_buffers() {
-    let mut exchange = Exchange::start(&BYTES).expect("started");
-    let mut terminal = Terminal::new().expect("a terminal");
-    let mut card = card();
-    let mut room = [0; 9];
-    for size in [0, 5, 9] {
-        let (room, bytes) = (&mut room[..size], &BYTES[..size.min(7)]);
-        let (space, start, n) = (at(room), at(bytes), bytes.len());
-        hands!(exchange.send_bytes(room) => exchange_send_bytes(_, space, size, _));
-        hands!(exchange.receive_bytes(bytes) => exchange_receive_bytes(_, start, n, _));
-        hands!(terminal.send_bytes(room) => terminal_send_bytes(_, space, size, _));
-        hands!(terminal.receive_bytes(bytes) => terminal_receive_bytes(_, start, n, _));
-        hands!(card.send_bytes(room) => card_send_bytes(_, space, size, _));
-        hands!(card.receive_bytes(bytes) => card_receive_bytes(_, start, n, _));
-    }
-}
-
-/// For each end and code: why sending stopped, and how many characters were taken.
+/// For each code: why sending stopped, and how many characters were taken. An exchange and a terminal
+/// share the body.
 #[test]
 fn of_what_buffers_tell() {
     let mut exchange = Exchange::start(&BYTES).expect("started");
@@ -430,8 +405,6 @@ fn of_what_buffers_tell() {
         let (stop, taking) = (stop.map(|it| (0, it)), taking.map_err(|it| (0, it)));
         assert_eq!(sent(exchange.send_bytes(&mut [])), stop);
         assert_eq!(received(exchange.receive_bytes(&[])), taking);
-        assert_eq!(sent(terminal.send_bytes(&mut [])), stop);
-        assert_eq!(received(terminal.receive_bytes(&[])), taking);
         assert_eq!(sent(card.send_bytes(&mut [])), stop);
         assert_eq!(received(card.receive_bytes(&[])), taking);
     }
@@ -542,6 +515,9 @@ fn of_a_card() {
     let (letters, space) = (at(steps.as_bytes()), at(&room));
     hands!(it.take(0xC3) => card_take(_, 0xC3));
     hands!(it.turn() => card_turn(_, _));
+    hands!(it.send_bytes(&mut room) => card_send_bytes(_, space, 300, _));
+    hands!(it.send_bytes(&mut []) => card_send_bytes(_, _, 0, _));
+    hands!(it.receive_bytes(&BYTES) => card_receive_bytes(_, bytes, 7, _));
     hands!(it.reset() => card_reset(_));
     hands!(it.tpdu(&BYTES) => card_tpdu(_, bytes, 7, _, 258, _));
     hands!(it.tpdu_into(&BYTES, &mut room) => card_tpdu(_, bytes, 7, space, 300, _));

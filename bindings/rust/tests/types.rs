@@ -246,7 +246,8 @@ fn a_cause_is_told_once() {
 #[test]
 fn values_have_hashes() {
     fn is_key<T: Hash + Eq>() {}
-    is_key::<(Status, Turn, Stop, Pps, Operation<'_>, Atr<'_>, Answer, Entry, Pdu)>();
+    is_key::<(Status, Turn, Stop, Pps, Operation<'_>)>();
+    is_key::<(Atr<'_>, Answer, Entry, Pdu)>();
 }
 
 /// Only one of these two impls fits a type that is not `Sync`. Of any other, `_` is ambiguous.

@@ -118,6 +118,49 @@ static void numbers(void) {
         CHECK(empty.live || empty.held, 0); \
     } while (0)
 
+/* Each number of a record: its name, its offset and its size, on which the archive relies. */
+#define IS_AT(type, name, at, size) do { \
+        CHECK(offsetof(type, name), at); \
+        CHECK(sizeof ((type *)0)->name, size); \
+    } while (0)
+
+static void layout_of_atr(void) {
+    CHECK(sizeof(gt_atr), 96);
+    IS_AT(gt_atr, length, 0, 8);
+    IS_AT(gt_atr, historical, 8, 8);
+    IS_AT(gt_atr, historical_count, 16, 8);
+    IS_AT(gt_atr, category, 24, 1);
+    IS_AT(gt_atr, convention, 25, 1);
+    IS_AT(gt_atr, protocol_count, 26, 1);
+    IS_AT(gt_atr, names_15, 42, 1);
+    IS_AT(gt_atr, rate_code, 43, 1);
+    IS_AT(gt_atr, di, 44, 1);
+    IS_AT(gt_atr, extra_guard_time, 45, 1);
+    IS_AT(gt_atr, waiting_integer, 46, 1);
+    IS_AT(gt_atr, specific, 47, 1);
+    IS_AT(gt_atr, specific_t, 48, 1);
+    IS_AT(gt_atr, can_change, 49, 1);
+    IS_AT(gt_atr, implicit, 50, 1);
+    IS_AT(gt_atr, clock_stop, 51, 1);
+    IS_AT(gt_atr, classes, 52, 1);
+    IS_AT(gt_atr, fi, 54, 2);
+    IS_AT(gt_atr, max_khz, 56, 2);
+    IS_AT(gt_atr, guard_etu, 58, 2);
+    IS_AT(gt_atr, guard_etu_t1, 60, 2);
+    IS_AT(gt_atr, guard_indicated, 62, 2);
+    IS_AT(gt_atr, waiting_time, 64, 4);
+    IS_AT(gt_atr, t1.ifsc, 72, 1);
+    IS_AT(gt_atr, t1.edc, 73, 1);
+    IS_AT(gt_atr, t1.bwi, 74, 1);
+    IS_AT(gt_atr, t1.cwi, 75, 1);
+    IS_AT(gt_atr, t1.cwt_etu, 76, 2);
+    IS_AT(gt_atr, t1.bwt_etu, 78, 2);
+    IS_AT(gt_atr, t1.bgt_etu, 80, 2);
+    IS_AT(gt_atr, t1.bwt_cycles, 88, 8);
+    IS_AT(gt_atr, protocols, 27, 15);
+    IS_AT(gt_atr, t1, 72, 24);
+}
+
 static void layouts(void) {
     IS_HANDLE(gt_exchange);
     IS_HANDLE(gt_terminal);
@@ -148,5 +191,6 @@ int main(void) {
     cut_words();
     numbers();
     layouts();
+    layout_of_atr();
     return check_result("texts");
 }

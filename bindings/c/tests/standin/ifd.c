@@ -149,18 +149,7 @@ static void two_cards(void)
     CHECK_ANSWER(ONE, "\x00\xDA\x5F\x20\x03LEE", "\x90\x00");
     CHECK_ANSWER(ONE, GET_NAME, "\x5F\x20\x03LEE\x90\x00");
     CHECK_ANSWER(OTHER, GET_NAME, "\x5F\x20\x03" "ANN\x90\x00");
-}
-
-/* The reader returns the card's answers unchanged: it sends no command of its own. */
-static void answers(void)
-{
-    CHECK_ANSWER(ONE, GET, "\x6C\x06");
-    CHECK_ANSWER(ONE, "\x00\xCA\x5F\x20\x02", "\x5F\x20\x61\x04");
-    CHECK_ANSWER(ONE, "\x00\xDA\x5F\x20", "\x90\x00");
     CHECK_ANSWER(ONE, "\x00\xDA\x5F\x20\x03JOE", "\x90\x00");
-    /* the card answers an invalid INS, as any */
-    CHECK_ANSWER(ONE, "\x00\x60\x00\x00\x00", "\x6D\x00");
-    CHECK_ANSWER(ONE, GET_NAME, "\x5F\x20\x03JOE\x90\x00");
 }
 
 /* Bytes that can't be carried out are a fault. Some of these reset the card. */
@@ -240,26 +229,6 @@ static void capabilities(void)
     CHECK(IFDHCreateChannel(NONE, 0), IFD_COMMUNICATION_ERROR);
 }
 
-/* An object of 600 bytes is returned in parts of at most 258 bytes, the room of a client. */
-static void long_object(void)
-{
-    char text[4096] = "app A0000000031010\nobject 5F20 ";
-    size_t n = strlen(text), i;
-    for (i = 0; i < 600; i++)
-        n += (size_t)snprintf(text + n, sizeof text - n, "%02X", (unsigned)(i % 256));
-    starts(text, "\x3B\x00", 2);
-    CHECK_ANSWER(NONE, SELECT, "\x61\x0B");
-    CHECK(send_at(NONE, 0, GET, 5, 258), IFD_SUCCESS);
-    CHECK(length, 258);
-    CHECK_BYTES(received, "\x5F\x20\x82\x02\x58\x00\x01", 7);
-    CHECK_BYTES(received + 256, "\x61\x00", 2);
-    CHECK(send_at(NONE, 0, "\x00\xC0\x00\x00\x00", 5, 258), IFD_SUCCESS);
-    CHECK(length, 258);
-    CHECK(received[0], 251);
-    CHECK_BYTES(received + 256, "\x61\x5D", 2);
-    CHECK(IFDHCloseChannel(NONE), IFD_SUCCESS);
-}
-
 /* A table may have an answer to reset of 2 to 33 bytes. Invalid tables are refused. */
 static void tables(void)
 {
@@ -325,7 +294,6 @@ static void told_faults(void)
 /* A card that offers T=1 alone takes whole commands, and answers each of them. */
 static void whole_commands(void)
 {
-    static const char long_value[5 + 255] = "\x10\xDA\x00\x50\xFF";
     char extended[600] = "\x00\xDA\x5F\x20\x00\x02\x00";
     starts("atr 3B800181\napp A0000000031010\nobject 5F20 4A4F45\n", "\x3B\x80\x01\x81", 4);
     check_protocols(NONE, IFD_PROTOCOL_NOT_SUPPORTED, IFD_SUCCESS);
@@ -337,9 +305,7 @@ static void whole_commands(void)
     CHECK_RESPONSE(NONE, "\x00\xCA\x5F\x20\x02", "\x5F\x20\x61\x04");
     /* bytes that are not a command, and refused commands: the response stays pending */
     CHECK_RESPONSE(NONE, "", "\x67\x00");
-    CHECK_RESPONSE(NONE, "\x00\xCA\x5F", "\x67\x00");
     CHECK_RESPONSE(NONE, "\x00\x60\x00\x00\x00", "\x6D\x00");
-    CHECK_RESPONSE(NONE, "\x00\xA4\x04\x00\x05", "\x67\x00");
     CHECK(send_at(NONE, 1, extended, 7 + 512, 258), IFD_SUCCESS);
     CHECK_BYTES(received, "\x67\x00", 2);
     CHECK_RESPONSE(NONE, "\x00\xC0\x00\x00\x00", "\x03JOE\x90\x00");
@@ -347,13 +313,6 @@ static void whole_commands(void)
     CHECK(send_at(NONE, 1, GET, 5, 8), IFD_SUCCESS);
     CHECK(length, 8);
     CHECK_FAULT(NONE, 1, GET, 7, IFD_ERROR_INSUFFICIENT_BUFFER);
-    CHECK(send_at(NONE, 1, long_value, sizeof long_value, 258), IFD_SUCCESS);
-    CHECK_BYTES(received, "\x90\x00", 2);
-    CHECK_RESPONSE(NONE, "\x00\xDA\x00\x50\x01\x41", "\x90\x00");
-    CHECK(send_at(NONE, 1, "\x00\xCA\x00\x50\x00", 5, 258), IFD_SUCCESS);
-    CHECK(length, 258);
-    CHECK_BYTES(received, "\x50\x82\x01\x00", 4);
-    CHECK_BYTES(received + 256, "\x61\x04", 2);
     check_power(NONE, IFD_POWER_DOWN, "", 0);
     CHECK_FAULT(NONE, 1, SELECT, 258, IFD_COMMUNICATION_ERROR);
     CHECK(IFDHCloseChannel(NONE), IFD_SUCCESS);
@@ -590,12 +549,10 @@ int main(void)
 {
     no_reader(ONE);
     two_cards();
-    answers();
     faults();
     le_behind_data();
     power();
     capabilities();
-    long_object();
     tables();
     whole_commands();
     both_protocols();

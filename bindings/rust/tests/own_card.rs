@@ -352,21 +352,14 @@ fn settling() {
     }
 }
 
-/// After these statuses and responses the card is reset, by each way.
+/// After a status or a response that none may answer the card is reset, by each way. Which these are
+/// is proved.
 #[test]
 fn what_no_application_answers() {
-    for word in [
-        0x6100, 0x61FF, 0x6C00, 0x6C05, 0x6000, 0x60FF, 0x5FFF, 0x7000, 0x8FFF, 0xA000,
-    ] {
-        let [high, low] = u16::to_be_bytes(word);
-        interrupted(&[0x00, 0x5A, high, low, 0x05], |_| Some(Error::Argument));
-    }
-    for word in [0x6200, 0x6BFF, 0x6D00, 0x6FFF, 0x9000, 0x9FFF] {
-        let [high, low] = u16::to_be_bytes(word);
-        let answer = talk(&mut own(), &[0x00, 0x5A, high, low, 0x05], one);
-        assert_eq!(answer, [high, low]);
-    }
+    interrupted(b"\x00\x5A\x61\x00\x05", |_| Some(Error::Argument));
     interrupted(b"\x00\xB0\x10\x01\x05", |_| Some(Error::Argument));
+    let answer = talk(&mut own(), b"\x00\x5A\x9F\xFF\x05", one);
+    assert_eq!(answer, [0x9F, 0xFF]);
 }
 
 #[test]
@@ -440,12 +433,7 @@ fn an_application_needs_two_functions() {
     }
     let mut card = OwnCard::new(Two(3)).expect("memory");
     card.application_mut().0 += 1;
-    card.receive_bytes(b"\x00\x10\x00\x00\x02")
-        .expect("listens");
-    assert_eq!(card.turn(), Ok(Turn::Sends(0x10)));
-    card.receive_bytes(b"AB").expect("listens");
-    assert_eq!(card.turn(), Ok(Turn::Sends(0x61)));
-    assert_eq!(card.turn(), Ok(Turn::Sends(0x01)));
+    assert_eq!(card.tpdu(b"\x00\x10\x00\x00\x02AB"), Ok(vec![0x61, 0x01]));
     assert_eq!(card.application().0, 6);
     card.reset().expect("a card");
     assert_eq!(card.application().0, 6);

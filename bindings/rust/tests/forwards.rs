@@ -317,17 +317,6 @@ fn of_an_end_at_t1() {
     assert_eq!(fault.outcome, Outcome::NotCarriedOut);
     assert_eq!(fault.cause, Cause::Unknown(0));
     hands!(it.reset() => t1_reset(_));
-    tell(1);
-    let came = hands!(it.receive(&BYTES) => t1_receive_bytes(_, bytes, 7, _));
-    assert!(came.expect("bytes").is_whole);
-    tell(2);
-    let sent = hands!(it.block_into(&mut room) => t1_send_bytes(_, space, 258, _, _));
-    assert_eq!(sent, Ok(None));
-    tell(-9);
-    let sent = hands!(it.block_into(&mut room) => t1_send_bytes(_, space, 258, _, _));
-    assert_eq!(sent, Err(Error::Failed));
-    tell(-8);
-    assert_eq!(hands!(it.fault() => t1_fault(_, _, _)), None);
     hands!(drop(it) => t1_free(_));
     tell(-5);
     let refused = hands!(T1::new(Edc::Crc, 0, T1Limits::default()) =>

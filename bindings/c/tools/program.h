@@ -56,7 +56,7 @@ int program_refuse(const char *fault);
 /* Flushes what was printed, and returns the exit status. */
 int program_end_output(void);
 
-/* A number of at most this many digits; one above `most` if the word is none. */
+/* A number of at most this many digits; one above `most` if the word is not one. */
 unsigned long program_number(const char *word, size_t digits, unsigned long most);
 
 #endif

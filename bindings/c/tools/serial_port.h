@@ -11,8 +11,8 @@
 /* the most bytes of a pseudo terminal's name, its NUL included */
 #define PORT_NAME_ROOM 64
 
-/* The lines of a tty beside the two that carry characters. The tty reads the first three, and drives
- * the last two. */
+/* The lines of a tty beside the two that carry characters. The tty reads the first three, and
+ * drives the last two. */
 enum port_signal { PORT_CTS, PORT_DSR, PORT_DCD, PORT_NONE, PORT_RTS, PORT_DTR };
 
 struct port {

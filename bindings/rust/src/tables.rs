@@ -68,8 +68,8 @@ fn entry(handle: &Handle, copies: Copies, app: usize, at: usize) -> Option<Entry
     (code == raw::OK).then_some(found)
 }
 
-/// The result of `copies`, the object, and how many bytes its value has. They are in `value` if that
-/// has room for them.
+/// The result of `copies`, the object, and how many bytes its value has. They are in `value` if
+/// that has room for them.
 fn copy(
     handle: &Handle,
     copies: Copies,

@@ -372,8 +372,8 @@ fn of_limits() {
     tell(0);
 }
 
-/// For each code: why sending stopped, and how many characters were taken. An exchange and a terminal
-/// share the body.
+/// For each code: why sending stopped, and how many characters were taken. An exchange and a
+/// terminal share the body.
 #[test]
 fn of_what_buffers_tell() {
     let mut exchange = Exchange::start(&BYTES).expect("started");

@@ -352,8 +352,8 @@ fn settling() {
     }
 }
 
-/// After a status or a response that none may answer the card is reset, by each way. Which these are
-/// is proved.
+/// After a status or a response that none may answer the card is reset, by each way. Which these
+/// are is proved.
 #[test]
 fn what_no_application_answers() {
     interrupted(b"\x00\x5A\x61\x00\x05", |_| Some(Error::Argument));

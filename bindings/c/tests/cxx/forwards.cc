@@ -1,6 +1,6 @@
 // Tests what calls of galliumtoad.hpp pass to the archive, and that they return the archive's code:
-// those that same.py has no rule for, and one of each kind that it has. The stand-ins for the archive
-// are those of forwards.c, which tests the header for C.
+// those that same.py has no rule for, and one of each kind that it has. The stand-ins for the
+// archive are those of forwards.c, which tests the header for C.
 #include <galliumtoad.hpp>
 
 #define STAND_INS_ALONE

@@ -16,8 +16,9 @@ MOST_LINES = 350
 FUNCTION = r"\nGT_(FUNCTION|MUST_CHECK) (?:\w+|const char \*)\s?(gt_\w+)\("
 # Calls that forwards.cc tests: they pass parameters in another order, or what a parameter has.
 OTHERS = {"pps_request", "entry_at", "own"}
-FORWARDS = re.compile(r"(?:GT_CODE|GT_HIDDEN Code) (\w+)\(((?:[^()]|\(\))*)\) ?(?:GT_OVER\(|noexcept "
-                      r"{ return Code\()((?:[^()]|\((?:[^()]|\([^()]*\))*\))*)\)")
+FORWARDS = (r"(?:GT_CODE|GT_HIDDEN Code) (\w+)\(((?:[^()]|\(\))*)\) ?(?:GT_OVER\(|noexcept "
+            r"{ return Code\()((?:[^()]|\((?:[^()]|\([^()]*\))*\))*)\)")
+BEGINS = r"(class|#define GT_PASSES)(?: (\w+) {|\(Held\))"
 MUST, HIDDEN = "[[nodiscard]]", '__attribute__((visibility("hidden")))'
 
 
@@ -52,7 +53,7 @@ def forwarded(text):
     class and name gets the handle and the parameters."""
     text = " ".join(text.replace("\\\n", " ").split())
     of, place = "gt_", {"class": "gt_{}_", "#define GT_PASSES": "Held##_"}
-    for it in re.finditer(rf"(class|#define GT_PASSES)(?: (\w+) {{|\(Held\))|{FORWARDS.pattern}", text):
+    for it in re.finditer(f"{BEGINS}|{FORWARDS}", text):
         if it[1]:
             of = place[it[1]].format((it[2] or "").lower())
             continue

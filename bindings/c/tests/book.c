@@ -1,7 +1,7 @@
 /* Runs the book of examples: each play by characters and by buffers, the characters to a card
  * alone, and the dialogues of a terminal at T=1. What they print is stored beside them. The crate
- * for Rust and the package for Python run the plays by TPDUs, commands and blocks, and in a session,
- * over the same archive. */
+ * for Rust and the package for Python run the plays by TPDUs, commands and blocks, and in a
+ * session, over the same archive. */
 #include "galliumtoad.h"
 #include "check.h"
 

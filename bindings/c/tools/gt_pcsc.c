@@ -66,9 +66,10 @@ static int list_readers(bool is_alone)
 static int run(char *const *words, size_t count)
 {
     struct script script;
-    struct script_refusal refusal;
     const long wait = seconds != NULL ? (long)program_number(seconds, 5, WAIT_LIMIT) : -1;
     const int protocol = protocol_word != NULL ? (int)program_number(protocol_word, 1, 1) : -1;
+    const char *fault;
+    bool is_of_words;
     int result;
     if (lists)
         return list_readers(count == 0 && file == NULL && reader_name == NULL);
@@ -80,8 +81,9 @@ static int run(char *const *words, size_t count)
         return program_refuse("'--wait' takes a number from 0 to 86400");
     if (protocol > 1)
         return program_refuse("'--protocol' takes 0 or 1");
-    if (!script_read(&script, file, words, count, &refusal))
-        return refusal.is_of_words ? program_refuse(refusal.text) : program_tell(refusal.text);
+    fault = script_read(&script, file, words, count, &is_of_words);
+    if (fault != NULL)
+        return is_of_words ? program_refuse(fault) : program_tell(fault);
     result = run_steps(&script, protocol, wait);
     script_free(&script);
     return result;

@@ -257,16 +257,17 @@ static int run_over(struct port *port, const struct script *script)
 static int run(char *const *words, size_t count)
 {
     struct script script;
-    struct script_refusal refusal;
     struct port port;
     const char *fault;
+    bool is_of_words;
     int result;
     if (count == 0)
         return program_refuse("no tty was provided");
     if (file != NULL && count > 1)
         return program_refuse("operations are either words or in FILE");
-    if (!script_read(&script, file, words + 1, count - 1, &refusal))
-        return refusal.is_of_words ? program_refuse(refusal.text) : program_tell(refusal.text);
+    fault = script_read(&script, file, words + 1, count - 1, &is_of_words);
+    if (fault != NULL)
+        return is_of_words ? program_refuse(fault) : program_tell(fault);
     fault = port_open(&port, words[0], options.baud);
     result = fault != NULL ? program_tell(fault) : run_over(&port, &script);
     if (fault == NULL)

@@ -6,20 +6,14 @@
 #include <stdlib.h>
 #include <string.h>
 
-static bool refuse(struct script_refusal *refusal, const char *text)
-{
-    refusal->text = text;
-    refusal->is_of_words = false;
-    return false;
-}
+/* Functions of text return NULL, or why there is no script; the text stays until the next call. */
 
 /* Refuses a step of the script; its unit and number precede the text. */
-static bool refuse_step(struct script_refusal *refusal, const struct script *script, size_t number,
-                        const char *text)
+static const char *refuse_step(const struct script *script, size_t number, const char *text)
 {
     static char told[400];
     snprintf(told, sizeof told, "%s %lu: %s", script->unit, (unsigned long)number, text);
-    return refuse(refusal, told);
+    return told;
 }
 
 /* Makes room for one more step: doubles it if it is full. */
@@ -38,92 +32,56 @@ static bool has_room(struct script *script)
 }
 
 /* Adds the operation that these words say. */
-static bool add(struct script *script, size_t number, char *const *words, size_t count,
-                struct script_refusal *refusal)
+static const char *add(struct script *script, size_t number, char *const *words, size_t count,
+                       bool *is_of_words)
 {
     const char *fault = gt_text(GT_MEMORY);
-    bool is_of_words = false;
     if (has_room(script))
         fault = operation_read(&script->steps[script->count].operation, words, count,
-                               &is_of_words);
-    if (fault != NULL) {
-        refuse_step(refusal, script, number, fault);
-        refusal->is_of_words = is_of_words;
-        return false;
-    }
+                               is_of_words);
+    if (fault != NULL)
+        return refuse_step(script, number, fault);
     script->steps[script->count++].number = number;
-    return true;
+    return NULL;
 }
 
-static void begin(struct script *script, const char *unit)
+static const char *add_words(struct script *script, char *const *words, size_t count,
+                             bool *is_of_words)
 {
-    memset(script, 0, sizeof *script);
-    script->unit = unit;
-}
-
-static bool script_of_words(struct script *script, char *const *words, size_t count,
-                            struct script_refusal *refusal)
-{
+    const char *fault = NULL;
     size_t at = 0, number = 1;
-    begin(script, "operation");
-    while (at < count) {
+    while (at < count && fault == NULL) {
         const size_t wanted = operation_word_count(words[at]);
         const size_t n = wanted == 0 ? 1 : wanted < count - at ? wanted : count - at;
-        if (!add(script, number++, words + at, n, refusal)) {
-            script_free(script);
-            return false;
-        }
+        fault = add(script, number++, words + at, n, is_of_words);
         at += n;
     }
-    return true;
-}
-
-/* The whole file, with a NUL after it; NULL if it can't be read or is too long. */
-static char *read_all(FILE *file, const char *name, size_t *n, struct script_refusal *refusal)
-{
-    /* one byte more than a script has shows that it is too long */
-    char *text = malloc(SCRIPT_SIZE_LIMIT + 2);
-    const char *why = NULL;
-    if (text == NULL) {
-        refuse(refusal, gt_text(GT_MEMORY));
-        return NULL;
-    }
-    *n = fread(text, 1, SCRIPT_SIZE_LIMIT + 1, file);
-    if (ferror(file))
-        why = text_fault("read fault", name, strerror(errno));
-    else if (*n > SCRIPT_SIZE_LIMIT)
-        why = text_quoted("input too long: ", name, "");
-    if (why != NULL) {
-        refuse(refusal, why);
-        free(text);
-        return NULL;
-    }
-    text[*n] = '\0';
-    return text;
+    return fault;
 }
 
 /* Reads one line, which ends at a NUL; a NUL inside it is a character of no word. */
-static bool add_line(struct script *script, size_t number, char *line, size_t n,
-                     struct script_refusal *refusal)
+static const char *add_line(struct script *script, size_t number, char *line, size_t n)
 {
     char *words[OPERATION_WORDS + 1];
     size_t count = 0;
+    bool is_of_words;
     if (line[0] == '#')
-        return true;
+        return NULL;
     if (strncmp(line, "\xEF\xBB\xBF", 3) == 0)
-        return refuse_step(refusal, script, number, OPERATION_UNKNOWN_WORD ": a byte order mark");
+        return refuse_step(script, number, OPERATION_UNKNOWN_WORD ": a byte order mark");
     if (strlen(line) != n)
-        return refuse_step(refusal, script, number, OPERATION_UNKNOWN_WORD);
+        return refuse_step(script, number, OPERATION_UNKNOWN_WORD);
     while (count <= OPERATION_WORDS && (words[count] = text_word(&line)) != NULL)
         count++;
-    return count == 0 || add(script, number, words, count, refusal);
+    return count == 0 ? NULL : add(script, number, words, count, &is_of_words);
 }
 
 /* Reads the lines of a text, each ended by an LF, or a CR and an LF; the last may lack its LF. */
-static bool add_lines(struct script *script, char *text, size_t n, struct script_refusal *refusal)
+static const char *add_lines(struct script *script, char *text, size_t n)
 {
+    const char *fault = NULL;
     size_t at = 0, number = 1;
-    while (at < n) {
+    while (at < n && fault == NULL) {
         char *line = text + at;
         char *end = memchr(line, '\n', n - at);
         size_t size = end != NULL ? (size_t)(end - line) : n - at;
@@ -131,47 +89,50 @@ static bool add_lines(struct script *script, char *text, size_t n, struct script
         if (end != NULL && size > 0 && line[size - 1] == '\r')
             size--;
         line[size] = '\0';
-        if (!add_line(script, number++, line, size, refusal))
-            return false;
+        fault = add_line(script, number++, line, size);
     }
-    return true;
+    return fault;
 }
 
-static bool script_of_file(struct script *script, FILE *file, const char *name,
-                           struct script_refusal *refusal)
+static const char *add_file(struct script *script, FILE *file, const char *name)
 {
+    /* one byte more than a script has shows that it is too long */
+    char *text = malloc(SCRIPT_SIZE_LIMIT + 2);
+    const char *fault = NULL;
     size_t n;
-    char *text = read_all(file, name, &n, refusal);
-    bool is_well;
-    begin(script, "line");
     if (text == NULL)
-        return false;
-    is_well = add_lines(script, text, n, refusal);
+        return gt_text(GT_MEMORY);
+    n = fread(text, 1, SCRIPT_SIZE_LIMIT + 1, file);
+    text[n] = '\0';
+    if (ferror(file))
+        fault = text_fault("read fault", name, strerror(errno));
+    else if (n > SCRIPT_SIZE_LIMIT)
+        fault = text_quoted("input too long: ", name, "");
+    else
+        fault = add_lines(script, text, n);
     free(text);
-    if (is_well && script->count == 0)
-        is_well = refuse(refusal, text_quoted("no operation in ", name, ""));
-    if (!is_well) {
-        script_free(script);
-        refusal->is_of_words = false;
-    }
-    return is_well;
+    return fault == NULL && script->count == 0 ? text_quoted("no operation in ", name, "") : fault;
 }
 
-bool script_read(struct script *script, const char *name, char *const *words, size_t count,
-                 struct script_refusal *refusal)
+const char *script_read(struct script *script, const char *name, char *const *words, size_t count,
+                        bool *is_of_words)
 {
-    FILE *file;
-    bool is_well;
-    if (name == NULL)
-        return script_of_words(script, words, count, refusal);
-    if (strcmp(name, "-") == 0)
-        return script_of_file(script, stdin, name, refusal);
-    file = fopen(name, "rb");
+    FILE *file = stdin;
+    const char *fault;
+    memset(script, 0, sizeof *script);
+    script->unit = name == NULL ? "operation" : "line";
+    *is_of_words = false;
+    if (name != NULL && strcmp(name, "-") != 0)
+        file = fopen(name, "rb");
     if (file == NULL)
-        return refuse(refusal, text_fault("read fault", name, strerror(errno)));
-    is_well = script_of_file(script, file, name, refusal);
-    fclose(file);
-    return is_well;
+        return text_fault("read fault", name, strerror(errno));
+    fault = name == NULL ? add_words(script, words, count, is_of_words)
+                         : add_file(script, file, name);
+    if (file != stdin)
+        fclose(file);
+    if (fault != NULL)
+        script_free(script);
+    return fault;
 }
 
 void script_free(struct script *script)
@@ -180,5 +141,5 @@ void script_free(struct script *script)
     for (i = 0; i < script->count; i++)
         operation_free(&script->steps[i].operation);
     free(script->steps);
-    begin(script, script->unit);
+    memset(script, 0, sizeof *script);
 }

@@ -17,19 +17,14 @@ struct script {
     const char *unit;   /* what the numbers count: "line" or "operation" */
 };
 
-/* Why there is no script. The text names the line or the operation, and stays until the next
- * call. */
-struct script_refusal {
-    const char *text;
-    bool is_of_words;   /* the words of the command line are to blame, and no file or machine */
-};
-
 /* Reads a script: from the file with this name (`-`: standard input), or from the words if `name`
  * is NULL. An operation of the command line has as many words as its first one requires. A file has
  * an operation in each line, and at least one. Empty lines, lines of spaces, and lines that begin
- * with # are skipped. Returns false if there is no script; then `refusal` says why. */
-bool script_read(struct script *script, const char *name, char *const *words, size_t count,
-                 struct script_refusal *refusal);
+ * with # are skipped. Returns NULL, or why there is no script: the line or the operation, and the
+ * reason. The text stays until the next call. `is_of_words` says that the words of the command line
+ * are to blame, and no file or machine. */
+const char *script_read(struct script *script, const char *name, char *const *words, size_t count,
+                        bool *is_of_words);
 
 /* Frees the memory. */
 void script_free(struct script *script);

@@ -27,7 +27,7 @@ step() {
   shift
   if "$@" > "$room/said" 2>&1; then
     last=$(tail -n 1 "$room/said")
-    [[ $last =~ ^([a-z_]+: )?([0-9]+)\ passed,\ [0-9]+\ failed$ ]]
+    [[ $last =~ ^([a-z0-9_]+: )?([0-9]+)\ passed,\ [0-9]+\ failed$ ]]
     passed=$((passed + ${BASH_REMATCH[2]:-1}))
   else
     failed=$((failed + 1))

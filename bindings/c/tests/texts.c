@@ -1,6 +1,6 @@
-/* Tests the texts for unknown values, the words of statuses, the numbers and layouts that the
- * header fixes, and that the library fits it. `checks/bindings/same` compares codes, texts and
- * limits with the crate for Rust and the definitions. */
+/* Tests what the header itself has: texts for unknown values, words of statuses, `gt_is_object`,
+ * the numbers and layouts that it fixes, and that the library fits it. `checks/bindings/same`
+ * compares codes, texts and limits with the crate for Rust and the definitions. */
 #include "galliumtoad.h"
 #include "check.h"
 
@@ -184,6 +184,34 @@ static void layouts(void) {
     CHECK(offsetof(gt_command, data), 7);
 }
 
+#define BYTES(s) (const uint8_t *)(s), sizeof(s) - 1
+#define NAME "\x5F\x20\x03JOE"
+
+/* `gt_is_object`: the bytes are one object with this tag, without padding around or between its
+ * parts (EMV Book 3, Annex B). */
+static void one_object(void) {
+    size_t n;
+    CHECK(gt_is_object(BYTES(NAME), 0x5F20), 1);
+    CHECK(gt_is_object(BYTES("\x50\x00"), 0x50), 1);
+    CHECK(gt_is_object(BYTES("\x5F\x20\x82\x00\x01J"), 0x5F20), 1);
+    CHECK(gt_is_object(BYTES("\x6F\x03\x84\x01\xA0"), 0x6F), 1);
+    for (n = 0; n + 1 < sizeof NAME; n++)
+        CHECK(gt_is_object((const uint8_t *)NAME, n, 0x5F20), 0);
+    CHECK(gt_is_object(BYTES(NAME), 0x5F24), 0);
+    CHECK(gt_is_object(BYTES(NAME), 0x5F), 0);
+    CHECK(gt_is_object(BYTES("JOE"), 0x5F20), 0);
+    CHECK(gt_is_object(BYTES("JOE"), 0x50), 0);
+    CHECK(gt_is_object(BYTES("A"), 0x5F20), 0); /* a value alone that is also a tag */
+    CHECK(gt_is_object(BYTES("\x00" NAME), 0x5F20), 0);
+    CHECK(gt_is_object(BYTES(NAME "\x00"), 0x5F20), 0);
+    CHECK(gt_is_object(BYTES(NAME "\x50\x00"), 0x5F20), 0);
+    CHECK(gt_is_object(BYTES("\x50\x00" NAME), 0x5F20), 0);
+    CHECK(gt_is_object(BYTES("\x6F\x03\x84\x01\xA0"), 0x84), 0); /* an inner tag */
+    CHECK(gt_is_object(BYTES("\x70\x02\x50\x01"), 0x70), 0); /* a template with an invalid value */
+    CHECK(gt_is_object(NULL, 0, 0x5F20), 0);
+    CHECK(gt_is_object(NULL, 6, 0x5F20), 0);
+}
+
 int main(void) {
     unknown();
     known();
@@ -192,5 +220,6 @@ int main(void) {
     numbers();
     layouts();
     layout_of_atr();
+    one_object();
     return check_result("texts");
 }

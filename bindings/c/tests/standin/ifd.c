@@ -334,15 +334,8 @@ static void both_protocols(void)
     CHECK(IFDHCloseChannel(NONE), IFD_SUCCESS);
 }
 
-/* An application that keeps a byte: PUT DATA stores it, and any other command reads it. */
-static int32_t keeps_a_byte(gt_card *card, const gt_command *command)
-{
-    static uint8_t kept;
-    if (command->ins != 0xDA)
-        return gt_card_respond(card, &kept, 1, 0x9000);
-    kept = command->size > 0 ? command->data[0] : 0;
-    return gt_card_respond(card, NULL, 0, 0x9000);
-}
+/* The application of own_card.c. */
+static table_application *keeps_a_byte;
 
 /* A card of an application of one's own, by TPDUs and by commands. */
 static void own_application(void)
@@ -547,6 +540,8 @@ static void all_readers(void)
 
 int main(void)
 {
+    keeps_a_byte = table_own;
+    table_own = NULL;
     no_reader(ONE);
     two_cards();
     faults();

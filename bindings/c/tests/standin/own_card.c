@@ -1,5 +1,5 @@
-/* serial_card with an application of one's own: PUT DATA stores a byte, and any other command reads
- * it. The second command that comes asks for more time first. */
+/* A card with an application of its own, for serial_card and ifd.c: PUT DATA stores a byte, and any
+ * other command reads it. The second command that comes asks for more time first, if it may. */
 #include "table.h"
 
 static int32_t keeps_a_byte(gt_card *card, const gt_command *command)

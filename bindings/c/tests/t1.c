@@ -33,7 +33,7 @@ static uint8_t block[GT_BLOCK_LIMIT + 1];
 /* Writes the block of these digits: PCB and field. */
 static size_t block_of_digits(const char *digits) {
     const size_t count = strlen(digits) / 2;
-    uint8_t bytes[GT_BLOCK_LIMIT];
+    uint8_t bytes[GT_BLOCK_LIMIT] = { 0 };
     size_t i;
     for (i = 0; i < count; i++) {
         const char two[3] = { digits[2 * i], digits[2 * i + 1], '\0' };

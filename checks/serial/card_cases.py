@@ -333,6 +333,7 @@ def tables():
         ("# a name\nobject 5F20 41\n", "line 2: no app\n"),
         ("atr 3B00\natr 3B00\n" + APP, "line 2: bad argument\n"),
         (APP + "atr 3B1095\nobject 50 41\natr 3B00\n", "line 5: bad argument\n"),
+        (APP + "object 0050 41\n", "line 3: bad argument\n"),
         (APP + "object 50 41\0 42\n", "line 3: bad argument\n"),
         (APP + "object 50 41\0 42", "line 3: bad argument\n"),
         ("atr 3B80018F\n", none + "wrong check byte, at byte 4\n"),

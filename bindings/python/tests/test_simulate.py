@@ -266,7 +266,9 @@ def test_a_delay(vpcd):
     ("table", "line"),
     [("object 50 AA", 1), (f"app A0\napp {AID}", 1), (f"app {AID}\napp {AID}", 2),
      ("\n# a\nnonsense", 3), (f"app {AID}\nobject 50", 2), (f"app {AID}\nobject 50 A", 2),
-     ("atr 3B00\natr 3B00", 2), (f"app {AID}\nobject 5F 00\nobject 50 00", 2)],
+     ("atr 3B00\natr 3B00", 2), (f"app {AID}\nobject 5F 00\nobject 50 00", 2),
+     (f"app {AID}\nobject 0050 00", 2), (f"app {AID}\nobject 50 00\x0b", 2),
+     (f"app {AID}\nobject\t50 00", 2), (f"app {AID}\n # a", 2), ("atr -", 1)],
 )
 def test_a_wrong_table(tmp_path, table, line):
     (tmp_path / "table").write_text(table)
@@ -279,6 +281,13 @@ def test_a_table(tmp_path):
     card, atr = read_table(str(tmp_path / "table"))
     found = [(it.tag, it.value, it.is_locked) for it in card.entries(bytes.fromhex(AID))]
     assert found == [(0x5F20, b"JOE", False), (0x50, b"", True)] and atr.hex() == "3b800181"
+
+
+def test_an_object_that_is_there_is_replaced_and_unlocked(tmp_path):
+    (tmp_path / "table").write_text(f"app {AID}\nlocked 5F20 41\r\nlocked 50 42\n \nobject 5F20 -")
+    card, _ = read_table(str(tmp_path / "table"))
+    found = [(it.tag, it.value, it.is_locked) for it in card.entries(bytes.fromhex(AID))]
+    assert found == [(0x5F20, b"", False), (0x50, b"B", True)]
 
 
 @pytest.mark.parametrize(

@@ -12,6 +12,7 @@ import shlex
 import shutil
 import sys
 import time
+from binascii import unhexlify
 from pathlib import Path
 from subprocess import PIPE, Popen, run
 from typing import Any, Callable, Optional, Sequence
@@ -30,21 +31,26 @@ WAY, RESPONSE = "(to|from)-card", f"(?:((?:[0-9A-F]{{2}}){{1,4096}}) )?({STATUS}
 def read_table(path: str) -> tuple[Card, bytes]:
     """Reads the lines `app`, `object`, `locked` and `atr` of a file. Returns the card and its
     answer to reset. Raises `Mistake`."""
-    tables, locked, atr, where = dict[bytes, dict[int, bytes]](), [], b"", path
+    tables, locked = dict[bytes, dict[int, bytes]](), set[tuple[bytes, int]]()
+    atr, where = b"", path
     try:
-        for line, words in enumerate(Path(path).read_text("utf-8").splitlines(), 1):
+        for line, text in enumerate(Path(path).read_bytes().decode().split("\n"), 1):
             where = f"{path}: line {line}"
-            kind, *rest = words.split() or ["#"]
-            given = [bytes.fromhex("" if it == "-" else it) for it in rest if kind[0] != "#"]
+            words = [it for it in text.removesuffix("\r").split(" ") if it]
+            if not words or text[0] == "#":
+                continue
+            kind, given = words[0], [unhexlify("" if it == "-" else it) for it in words[1:]]
             if (kind, len(given)) == ("app", 1) and given[0] not in tables:
                 tables[given[0]] = {}
-            elif (kind, len(given)) == ("atr", 1) and not atr:
+            elif (kind, len(given)) == ("atr", 1) and given[0] and not atr:
                 [atr] = given
             elif kind in ("object", "locked") and len(given) == 2 and tables:
                 aid, tag = [*tables][-1], int.from_bytes(given[0], "big")
+                if given[0][:1] == b"\0":
+                    raise ValueError("a tag has no 00 in front")
                 tables[aid][tag] = given[1]
-                locked += [(aid, tag)] if kind == "locked" else []
-            elif kind[0] != "#":
+                (locked.add if kind == "locked" else locked.discard)((aid, tag))
+            else:
                 raise ValueError("not a line of a table")
             Card(tables, locked)  # refuses what this line adds
         return Card(tables, locked), atr or LEAST_ATR

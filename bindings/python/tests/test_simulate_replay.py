@@ -104,6 +104,12 @@ def test_another_le_is_the_same_command(replay):
         "010203049000", "010203049000", "01026102", "03049000", "6104", "010203049000"]
 
 
+def test_a_command_that_is_cut_off_before_its_status_or_within_it_is_unknown(replay):
+    cut = one(4, "80200000", "", "02", ""), one(6, "80300000", "", "03", "90")
+    card = replay(COUNTER[0], *cut)
+    assert asked(card, "8010000001", "8020000001", "8030000001") == ["019000", "6D00", "6D00"]
+
+
 def test_data_and_no_data(replay):
     """Also where the capture has the other, which a card of one's own refuses as 6700."""
     verify = one(2, "0020008002", "3132", "", "9000"), one(3, "00200080", "", "", "63C3")

@@ -184,7 +184,7 @@ class Replay(Application):
                 found.append([])
                 self.atr = self.atr or bytes.fromhex(it.get("characters", ""))
             for tpdu in it["tpdus"] if it["type"] == "command" else []:
-                if tpdu.get("status"):  # without one, the capture ends in it
+                if len(tpdu.get("status", "")) == 4:  # else the session ends in it
                     self.take(tpdu, found[-1])
         self.sessions = [it for it in found if it]
         if not self.sessions:

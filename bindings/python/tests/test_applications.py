@@ -263,6 +263,14 @@ def test_the_dialogue_at_t1_has_a_line_for_each_block():
         f"{sign} {it.hex().upper()}" for sign, it in zip("><><", blocks))]
 
 
+def application_of(tmp_path, monkeypatch, source):
+    """The application of a module with this source."""
+    (tmp_path / "wrong.py").write_text(source)
+    monkeypatch.syspath_prepend(str(tmp_path))
+    monkeypatch.delitem(sys.modules, "wrong", raising=False)
+    return application("wrong:Wrong")
+
+
 RESULTS = ["None", "0x9000", "(0x9000,)", "(0x9000, 'text')", "('9000', b'')", "(0x6105, b'')",
            "(0x6C05, b'')", "(0x5000, b'')", "(0x19000, b'')", "(-1, b'')", "(0x9000, bytes(4097))",
            "(0x9000, b'', 1)"]
@@ -272,11 +280,7 @@ RESULTS = ["None", "0x9000", "(0x9000,)", "(0x9000, 'text')", "('9000', b'')", "
 @pytest.mark.parametrize("result", RESULTS)
 def test_a_result_that_no_application_may_return(tmp_path, monkeypatch, result, atr):
     """It is a mistake that names class and method, and the card is reset."""
-    source = COUNTS.replace("RESULT", result)
-    (tmp_path / "wrong.py").write_text(source)
-    monkeypatch.syspath_prepend(str(tmp_path))
-    monkeypatch.delitem(sys.modules, "wrong", raising=False)
-    made = application("wrong:Wrong")
+    made = application_of(tmp_path, monkeypatch, COUNTS.replace("RESULT", result))
     with Simulator(OwnCard(made), bytes.fromhex(atr)) as it:
         with pytest.raises(Mistake) as why:
             it(bytes.fromhex("8010000001"))
@@ -299,24 +303,39 @@ class Wrong(Application):
 """
 
 
-@pytest.mark.parametrize(("result", "said"), [
-    ("None", " returned None, not a status and up to 4096 bytes of data\n"),
-    ("open('/none')", ": [Errno 2] No such file or directory: '/none'\n"),
+METHODS = ("takes_data", "carry_out", "settle", "reset")
+FAILS = COUNTS.replace("RESULT", "0x9000, b''") + "    def METHOD(self, *_):\n        "
+NO_FILE = ": [Errno 2] No such file or directory: '/none'\n"
+
+
+@pytest.mark.parametrize(("method", "does", "said"), [
+    ("carry_out", "pass", " returned None, not a status and up to 4096 bytes of data\n"),
+    *((it, "open('/none')", NO_FILE) for it in METHODS),
 ])
-def test_the_simulation_ends_at_such_a_result(tmp_path, result, said):
-    (tmp_path / "wrong.py").write_text(COUNTS.replace("RESULT", result))
-    card = Card("--application", "wrong:Wrong", cwd=tmp_path)
+def test_the_simulation_ends_at_such_a_result(tmp_path, method, does, said):
+    """And at an error of the application, which is not the end of the line."""
+    (tmp_path / "wrong.py").write_text(FAILS.replace("METHOD", method) + does)
+    card = AtPty("--application", "wrong:Wrong", "--no-echo", cwd=tmp_path).open()
     os.write(card.line, bytes.fromhex("8010000000"))
     assert card.program.wait(60) == 2
-    assert card.end()[1] == f"wrong:Wrong.carry_out{said}"
+    assert card.end()[1] == f"wrong:Wrong.{method}{said}"
+
+
+@pytest.mark.parametrize("method", METHODS)
+def test_an_error_of_the_library_in_an_application_is_no_status(tmp_path, monkeypatch, method):
+    """A command of its own that is refused is not the terminal's."""
+    source = FAILS.replace("METHOD", method) + "__import__('galliumtoad').Exchange(b'')"
+    made = application_of(tmp_path, monkeypatch, source)
+    with Simulator(OwnCard(made)) as it:
+        with pytest.raises(Mistake, match=f"^wrong:Wrong.{method}: command too short$"):
+            it(bytes.fromhex("8010000001"))
+            it.reset()
 
 
 @pytest.mark.parametrize("result", ["(0x9000, bytearray(b'AB'))", "[0x9000, memoryview(b'AB')]"])
 def test_a_result_in_other_types(tmp_path, monkeypatch, result):
-    (tmp_path / "wrong.py").write_text(COUNTS.replace("RESULT", result))
-    monkeypatch.syspath_prepend(str(tmp_path))
-    monkeypatch.delitem(sys.modules, "wrong", raising=False)
-    with Simulator(OwnCard(application("wrong:Wrong"))) as it:
+    made = application_of(tmp_path, monkeypatch, COUNTS.replace("RESULT", result))
+    with Simulator(OwnCard(made)) as it:
         assert it(bytes.fromhex("8010000002")).hex() == "41429000"
 
 

@@ -316,7 +316,7 @@ def test_a_journal_whose_heading_was_cut(tmp_path):
     whole = file.read_bytes()
     for kept in range(len(whole)):
         file.write_bytes(whole[:kept])
-        with pytest.raises(ValueError, match="journal is not a journal"):
+        with pytest.raises(ValueError, match="journal is not a journal: line 1 is no heading of"):
             room.opened(1)
         assert file.read_bytes() == whole[:kept]
         room.create()
@@ -478,15 +478,26 @@ def test_only_its_owner_reads_a_journal_and_dialogues(tmp_path):
     assert (tmp_path / "journal.cards/1.trace").stat().st_mode & 0o777 == 0o600
 
 
+# Fields of a heading, each of another type or out of its range.
+WRONG = [("at", "1"), ("at", 0), ("at", 2), ("at", 1.0), ("at", None), ("of", "1"), ("of", 0),
+         ("of", 1.5), ("id_tag", "9F7F"), ("id_tag", 1.5), ("key", 7), ("key", "5G"), ("table", 7),
+         ("table", None), ("row", 1)]
+RIGHT = {"at": 1, "of": 1, "id_tag": None, "key": "00" * 16, "table": "rows.csv"}
+
+
 @pytest.mark.parametrize(
     "text",
     [b"name,code\nA,00", b"\xff\xfe", b"# rows of another table", b"# rows\n"]
-    + [b"# galliumtoad.batch part 1/1\n", b"# galliumtoad.batcH part", b"a" * 70000],
+    + [b"# galliumtoad.batch part 1/1\n", b"# galliumtoad.batcH part", b"a" * 70000]
+    + [f"# galliumtoad.batch {json.dumps({**RIGHT, name: it})}\n".encode() for name, it in WRONG],
 )
 def test_another_file_is_no_journal_and_stays(tmp_path, text):
+    """Nor does one hinder the journal beside it."""
     room = Room(tmp_path, 1)
     (tmp_path / "journal").write_bytes(text)
-    assert room.run() == (2, "", "galliumtoad.batch: journal is not a journal\n")
+    wanted = "galliumtoad.batch: journal is not a journal: line 1 is no heading of one\n"
+    assert room.run() == (2, "", wanted)
+    assert room.run("--check", "--new", "--journal=other")[0] == 0
     status, _, error = room.run("--new")
     wanted = "galliumtoad.batch: journal exists: without --new the batch continues\n"
     assert (status, error) == (2, wanted)

@@ -172,6 +172,15 @@ def test_a_table_names_a_journal_elsewhere(tmp_path):
     assert room.run(*second)[0] == 0 and link.resolve() == tmp_path / "two/journal"
 
 
+def test_a_link_without_its_journal_s_heading_is_from_a_crash(tmp_path):
+    room = Room(tmp_path, 1)
+    (tmp_path / "one").mkdir()
+    (tmp_path / "one/journal").write_text("# galli")
+    (link := tmp_path / "rows.csv.1-of-1.journal").symlink_to(tmp_path / "one/journal")
+    words = ("--journal=one/journal", "--new", *room.readers)
+    assert room.run(*words)[0] == 0 and link.resolve() == tmp_path / "one/journal"
+
+
 @pytest.mark.parametrize(("is_writable", "number"), [(False, errno.EROFS), (True, errno.EPERM)])
 def test_a_table_whose_folder_takes_no_link(tmp_path, monkeypatch, is_writable, number):
     """It is on a disk that can't be written, or that has no links."""

@@ -7,6 +7,7 @@ import pty
 import re
 import select
 import shlex
+import signal
 import subprocess
 import time
 from datetime import datetime, timedelta, timezone
@@ -176,6 +177,26 @@ def test_a_bar_counts_the_rows_of_its_run_for_the_rate(tmp_path):
     text = terminal.read(" a minute")
     assert done > 3 and f"{done} of 20 rows, 0 a minute" in text
     terminal.run.kill()
+
+
+def test_a_part_without_a_row_has_nothing_to_do(tmp_path):
+    """Also on a terminal, whose bar has no rate then."""
+    room = Room(tmp_path, 3)
+    for words in (["--new", "--part=5/5"], []):
+        terminal = Terminal(room, *words)
+        text = terminal.read()
+        assert text.endswith("0 of 0 rows done, 0 to decide\r\n") and terminal.run.wait(60) == 0
+
+
+def test_an_interrupt_before_a_card_is_told_in_a_line(tmp_path):
+    room = Room(tmp_path, 1)
+    room.environment["LIES"] = "yes"
+    assert room.run("--stop-after=1")[0] == 0
+    (tmp_path / room.names[0] / "out").touch()
+    run = room.start("--look=1", *room.readers)
+    assert run.stdout.readline() == f"{room.names[0]}: insert the card of row 1\n"
+    run.send_signal(signal.SIGINT)
+    assert ended(run)[1] == "galliumtoad.batch: interrupted\n" and run.returncode == 2
 
 
 def test_a_bar_on_a_terminal(tmp_path):

@@ -290,6 +290,28 @@ def test_an_object_that_is_there_is_replaced_and_unlocked(tmp_path):
     assert found == [(0x5F20, b"", False), (0x50, b"B", True)]
 
 
+def test_files_of_another_system(tmp_path, monkeypatch):
+    """CR before LF. A byte order mark may precede faults; no line of a script begins with one."""
+    (tmp_path / "table").write_bytes(TABLE.replace("\n", "\r\n").encode())
+    (tmp_path / "faults").write_bytes("\uFEFFcommand 1, mute\r\nafter 2, mute\r\n".encode())
+    found = []
+    monkeypatch.setattr(simulate, "serve_pty", lambda it, *_: found.append(it))
+    words = ["--table", str(tmp_path / "table"), "--faults", str(tmp_path / "faults")]
+    assert main([*words, "--pty"]) == 0
+    assert [it.values for it in found[0].faults.all] == [[], []]
+
+
+@pytest.mark.parametrize("words", [["-v"], []])
+def test_the_program_ends_with_the_reader_of_its_output(at_pty, words):
+    """It can print no dialogue, and no fault. That is not the end of the line."""
+    card = at_pty(faults="command 1, status 6F00", words=words)
+    card.program.stdout.close()
+    os.write(card.open().line, bytes.fromhex("00CA5F2006"))
+    assert card.program.wait(60)
+    card.said = card.program.stderr.read()
+    assert card.said.startswith("standard output: [Errno 32] Broken pipe\n")
+
+
 @pytest.mark.parametrize(
     ("words", "faults", "text"),
     [(["--vpcd"], "after 1, mute\nafter 2, lrc", "faults:2: after 2, lrc: this needs a line at"),

@@ -193,6 +193,17 @@ def test_a_capture_that_can_not_be_replayed(replay, objects, why):
         replay(*objects)
 
 
+NO_TPDUS = {"type": "command", "line": 2}
+
+
+@pytest.mark.parametrize(
+    "object_", [7, [], "error", {}, {"line": 1}, NO_TPDUS, {**NO_TPDUS, "tpdus": 7},
+                {**NO_TPDUS, "tpdus": [{"status": 7}]}, {"type": "atr", "characters": "3"}])
+def test_lines_that_another_program_wrote(replay, tmp_path, object_):
+    with pytest.raises(Mistake, match=f"^{tmp_path}/capture: not of trace_explain --json: "):
+        replay(RESET, object_, *COUNTER)
+
+
 def test_a_masked_note_does_not_matter(replay):
     assert replay({"type": "note", "line": 1, "text": None, "masked": True}, *COUNTER).sessions
     assert len(replay(one(1, "00CA0050", "", "", ""), *COUNTER).sessions[0]) == 2

@@ -2,12 +2,16 @@
 
 import contextlib
 import json
+import signal
+import subprocess
 import sys
+import time
 from pathlib import Path
 
 import pytest
 from galliumtoad import trials
 from galliumtoad.trials import VALUE, Run, main
+from waiting import wait_until
 
 JOB = [sys.executable, str(Path(__file__).with_name("job.py"))]
 JOB += ["{tty}", "{aid}", "{tag}", "{value}"]
@@ -53,6 +57,30 @@ def test_what_no_terminal_sees_does_not_count(tmp_path, capsys):
     found, status, _ = run(tmp_path, "put forgotten in the middle")
     assert list(found.values()) == ["wrong"] and status == 0
     assert "wrong  *" in capsys.readouterr().out
+
+
+LEAVES = "setsid sleep 30 & echo it says; exec sleep 30"
+
+
+def test_a_process_that_leaves_its_group_holds_nothing_up(tmp_path, monkeypatch):
+    """It keeps the output open."""
+    begun, made = time.monotonic(), tmp_path / "made.json"
+    words = ["--only", "select refused", "--limit", "2", "--json", str(made), "--", "sh", "-c"]
+    assert main([*words, LEAVES, "{tty}"]) == 1 and time.monotonic() < begun + 25
+    [found] = json.loads(made.read_text())
+    assert (found["verdict"], found["said"]) == ("hung", "it says")
+
+
+def test_an_interrupt_ends_the_terminal_too(tmp_path):
+    words = ["--only", "select refused", "--", "sh", "-c", "echo $$ > made; sleep 100", "{tty}"]
+    run = subprocess.Popen([sys.executable, "-m", "galliumtoad.trials", *words], cwd=tmp_path,
+                           stderr=subprocess.PIPE, text=True, preexec_fn=lambda: signal.signal(
+                               signal.SIGINT, signal.default_int_handler))
+    wait_until(lambda: (tmp_path / "made").exists() and (tmp_path / "made").read_text())
+    run.send_signal(signal.SIGINT)
+    assert run.communicate(timeout=60)[1] == "interrupted\n" and run.returncode == 2
+    number = (tmp_path / "made").read_text().strip()
+    wait_until(lambda: not Path(f"/proc/{number}/exe").exists())
 
 
 def test_verdicts():

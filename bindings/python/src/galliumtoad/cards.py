@@ -60,14 +60,12 @@ def read_table(path: str) -> tuple[Card, bytes]:
 
 def status_of(digits: str) -> int:
     """Reads a status that an application may have. Raises `ValueError`."""
-    if not re.fullmatch(STATUS, digits, re.I):
-        raise ValueError
-    return int(digits, 16)
+    return int(digits if re.fullmatch(STATUS, digits, re.I) else "", 16)
 
 
 def application(name: str) -> Application:
-    """Makes an object of a class, MODULE:CLASS. Raises `Mistake`, also later for a result of its
-    `carry_out` that no application may return."""
+    """Makes an object of a class, MODULE:CLASS. Raises `Mistake`, also later: for a result that no
+    application may return, and for an error that else ends the line, or is a status."""
     if not re.fullmatch(".+:.+", name):
         raise Mistake(f"{name} is not MODULE:CLASS")
     sys.path.insert(0, "")  # the folder of the program's user
@@ -75,11 +73,11 @@ def application(name: str) -> Application:
         made = pkgutil.resolve_name(name)()
     if not isinstance(made, Application):
         raise Mistake(f"{name} is no Application")
-    own = made.carry_out
+    for it in ("takes_data", "carry_out", "settle", "reset"):
+        setattr(made, it, mistakes(f"{name}.{it}", OSError, Error)(getattr(made, it)))
 
-    def carry_out(command: Command) -> tuple[int, bytes]:
-        with mistakes(f"{name}.carry_out", OSError):  # which would be the end of the line
-            given = own(command)
+    def carry_out(command: Command, own: Any = made.carry_out) -> tuple[int, bytes]:
+        given = own(command)
         with contextlib.suppress(TypeError, ValueError):
             status, data = given
             if len(kept := bytes(memoryview(data))) <= 4096:
@@ -177,15 +175,16 @@ class Replay(Application):
     def __init__(self, path: str, unknown: int = 0x6D00, is_strict: bool = False) -> None:
         self.path, self.unknown, self.is_strict, self.atr = path, unknown, is_strict, b""
         found, self.place, self.sent = [list[Object]()], 0, list[str]()
-        for it in explained(path):
-            if it["type"] == "error" or it["type"] != "note" and '"masked"' in json.dumps(it):
-                raise Mistake(f"{path}: line {it['line']}: {it.get('text', 'a masked value')}")
-            if it["type"] in ("reset", "atr"):
-                found.append([])
-                self.atr = self.atr or bytes.fromhex(it.get("characters", ""))
-            for tpdu in it["tpdus"] if it["type"] == "command" else []:
-                if len(tpdu.get("status", "")) == 4:  # else the session ends in it
-                    self.take(tpdu, found[-1])
+        with mistakes(f"{path}: not of trace_explain --json", LookupError, TypeError, ValueError):
+            for it in explained(path):
+                if it["type"] == "error" or it["type"] != "note" and '"masked"' in json.dumps(it):
+                    raise Mistake(f"{path}: line {it['line']}: {it.get('text', 'a masked value')}")
+                if it["type"] in ("reset", "atr"):
+                    found.append([])
+                    self.atr = self.atr or bytes.fromhex(it.get("characters", ""))
+                for tpdu in it["tpdus"] if it["type"] == "command" else []:
+                    if len(tpdu.get("status", "")) == 4:  # else the session ends in it
+                        self.take(tpdu, found[-1])
         self.sessions = [it for it in found if it]
         if not self.sessions:
             raise Mistake(f"{path}: no command with an answer")

@@ -34,9 +34,9 @@ TURNED = bytes(int(f"{byte:08b}"[::-1], 2) ^ 0xFF for byte in range(256))  # inv
 class Simulator(contextlib.ExitStack):
     """A card with an answer to reset and faults. In this process it is a transport for a
     `Terminal`: of whole commands if it is an `OwnCard`, or if the answer to reset offers another
-    protocol than T=0 first, and of whole TPDUs otherwise. It raises `Gone` if the card is mute or
-    has no power. `carried_out` gets each TPDU or command that reaches the card, once also with the
-    fault `twice`. The end of `with` frees the card.
+    protocol than T=0 first, else of TPDUs. It raises `Gone` if the card is mute or has no power.
+    `carried_out` gets what reaches the card, once also with the fault `twice`. The end of `with`
+    frees the card.
 
     >>> with Simulator(Card({bytes(5): {}}), faults=Faults(read("p 1, status 6A82"))) as reader:
     ...     reader(bytes.fromhex("00A40400050000000000")).hex()
@@ -75,6 +75,7 @@ class Simulator(contextlib.ExitStack):
         if self.shows:
             self.tell("reset")
 
+    @mistakes("standard output", OSError)  # which is no end of the line
     def tell(self, text: str, sign: str = "") -> None:
         """Prints a line; or if the card `shows` them, bytes that the terminal (`>`) or the card
         (`<`) sent. Bytes of one end are one line, as `trace_explain` reads it."""
@@ -336,9 +337,8 @@ def serve_vpcd(of: Simulator, address: str) -> None:
 def parser() -> argparse.ArgumentParser:
     it = argparse.ArgumentParser("galliumtoad.simulate", description="A card with faults.",
                                  epilog="docs/FAULTS.md says more.")
-    card = it.add_mutually_exclusive_group(required=True).add_argument
-    place = it.add_mutually_exclusive_group(required=True).add_argument
-    add = it.add_argument
+    groups = (it.add_mutually_exclusive_group(required=True).add_argument for _ in range(2))
+    (card, place), add = groups, it.add_argument
     card("--table", metavar="FILE", type=read_table, help="lines `app`, `object`, `locked`, `atr`")
     card("--application", metavar="MODULE:CLASS", dest="own", type=application,
          help="an Application made without arguments, of a module here or of an installed one")
@@ -348,8 +348,7 @@ def parser() -> argparse.ArgumentParser:
     place("--pty", action="store_true", help="prints a pseudo terminal's name; opening it resets, "
           "unless it is open, or was closed in the same moment")
     place("--tty", metavar="PATH", help="a serial line")
-    add("--atr", type=bytes.fromhex, metavar="HEX",
-        help="the answer to reset; without it that of the card, else 3B00")
+    add("--atr", type=bytes.fromhex, metavar="HEX", help="answer to reset; else the card's or 3B00")
     add("--faults", metavar="FILE", help="lines WHEN, WHAT, as `command 2, cut 1`")
     add("--seed", type=int, default=0, help="the seed of faults `p CHANCE`; without it 0")
     add("-v", action="store_true", help="prints the dialogue for trace_explain (vpcd: --tpdu)")
@@ -371,7 +370,7 @@ def main(words: Optional[list[str]] = None) -> int:
         own = Replay(given.replay, given.unknown, given.strict) if given.replay else given.own
         card, atr = given.table or (OwnCard(own), getattr(own, "atr", b"") or LEAST_ATR)
         with mistakes(given.faults):
-            text = Path(given.faults).read_text("utf-8") if given.faults else ""
+            text = Path(given.faults).read_text("utf-8-sig") if given.faults else ""
         faults = Faults(read(text, given.faults), given.seed)
         with Simulator(card, given.atr or atr, faults, given.v) as simulator:
             if given.vpcd:

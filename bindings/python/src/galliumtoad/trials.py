@@ -101,6 +101,7 @@ def tried(trial: Trial, given: argparse.Namespace) -> None:
     """Lets a terminal do the job with this fault, once pcscd has seen the card in vpcd's reader, or
     over a pseudo terminal. Raises `OSError`."""
     run, begun, ready = Run(trial, given.protocol), time.monotonic(), SimpleQueue[str]()
+    program: Optional[Popen[str]] = None
     line = None if given.is_line else connected(given.vpcd)
     thread = threading.Thread(daemon=True, target=lambda: (
         talk_vpcd(run, line, ready.put) if line else serve_pty(run, True, ready.put)))
@@ -114,10 +115,11 @@ def tried(trial: Trial, given: argparse.Namespace) -> None:
         output, trial.status = program.communicate(timeout=given.limit)[0], program.returncode
     except Empty:
         raise OSError(f"the reader at {given.vpcd} does not see the card") from None
-    except TimeoutExpired:
-        os.killpg(program.pid, signal.SIGKILL)
-        output = program.communicate()[0]
+    except TimeoutExpired as why:  # a process may have left its group, and never end
+        output = (why.output or b"").decode("utf-8", "replace")
     finally:
+        if program and program.returncode is None:
+            os.killpg(program.pid, signal.SIGKILL)
         trial.seconds = round(time.monotonic() - begun, 1)
         run.is_over.set()
         thread.join()
@@ -184,8 +186,8 @@ def main(words: Optional[list[str]] = None) -> int:
             Path(given.json).write_text(json.dumps([asdict(it) for it in results], indent=1) + "\n")
         if given.html:
             Path(given.html).write_text(as_html(results), "utf-8")
-    except (Mistake, OSError) as why:
-        print(why, file=sys.stderr)
+    except (Mistake, OSError, KeyboardInterrupt) as why:
+        print(str(why) or "interrupted", file=sys.stderr)
         return 2
     return int(not set(BAD).isdisjoint(counted))
 

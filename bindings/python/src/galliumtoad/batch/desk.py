@@ -124,8 +124,7 @@ class Desk:
                     it.join()
                 elif it.row and self.journal.state(it.row) == "unsure":  # another may begin still
                     it.give_up()
-            if self._bar:
-                print(_WIPE, end="", flush=True)
+            print(self._bar and _WIPE, end="", flush=True)
 
     def _interrupt(self, *_: object) -> None:
         self._interrupts += 1
@@ -148,7 +147,7 @@ class Desk:
                 done, all_of = self.journal.count("done"), len(self.journal.numbers)
                 rate = (done - self._done_before) / max(self._looked - self._begun, 0.1) * 60
                 left = f", {(all_of - done) / rate:.0f} min left" if rate else ""
-                full = f"{'#' * (done * 20 // all_of):-<20}"
+                full = f"{'#' * (all_of and done * 20 // all_of):-<20}"
                 with self._alone:
                     self._bar = f"[{full}] {done} of {all_of} rows, {rate:.0f} a minute{left}"
                     print(f"{_WIPE}{self._bar}", end="", flush=True)

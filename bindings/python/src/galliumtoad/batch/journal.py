@@ -54,11 +54,12 @@ def place_of(table: str) -> str:  # a pipe has only its name
 
 def heading_of(path: str) -> Optional[Heading]:
     """Reads a file's first line, or returns None if it is not that of a journal."""
-    with contextlib.suppress(OSError, ValueError, TypeError):
-        with open(path, encoding="ascii") as file:
-            line = file.readline(1 << 16)
+    with contextlib.suppress(OSError, ValueError, TypeError), open(path, encoding="ascii") as file:
+        line = file.readline(1 << 16)
         if line.startswith(_MAGIC) and line.endswith("\n"):
             found = Heading(**json.loads(line[len(_MAGIC) :]))
+            range(1, found.of + 1).index(found.at)  # each field has its type and its range
+            _ = f"{found.at:d} {found.id_tag or 0:X}", bytes.fromhex(found.key)
             place = os.path.join(os.path.dirname(os.path.realpath(path)), found.table)
             return replace(found, table=os.path.normpath(place))
     return None
@@ -88,7 +89,7 @@ def create(path: str, heading: Heading, only_looks: bool = False) -> None:
             return
         if os.path.isfile(table) and beside != folder and os.access(beside, os.W_OK):
             link = f"{table}.{heading.at}-of-{heading.of}.journal"
-            if os.path.islink(link) and not os.path.exists(link):
+            if os.path.islink(link) and (os.readlink(link) == place or not os.path.exists(link)):
                 os.unlink(link)
             with contextlib.suppress(PermissionError):  # on a disk without links
                 os.symlink(place, link)
@@ -117,7 +118,7 @@ class Journal:
             raise ValueError(f"there is no journal {path}: --new creates it")
         self._file = os.open(path, os.O_RDWR)
         if (found := heading_of(path)) is None:
-            raise ValueError(f"{path} is not a journal")
+            raise ValueError(f"{path} is not a journal: line 1 is no heading of one")
         if found.table != place_of(table):
             raise ValueError(f"{path} is the journal of the table {found.table}")
         self.heading, self.numbers = found, range(found.at, rows + 1, found.of)

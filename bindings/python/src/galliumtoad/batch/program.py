@@ -18,12 +18,12 @@ _SHOWN = 20  # mistakes
 
 
 def part(text: str) -> tuple[int, int]:
-    at, of = map(int, text.split("/"))
+    at, of = map(count, text.split("/"))
     return within(at, 1, of, "a part"), of
 
 
 def count(text: str) -> int:
-    return within(int(text), 1, sys.maxsize, "a count")
+    return within(int(text if text.encode().isdigit() else ""), 1, sys.maxsize, "a count")
 
 
 def parsed(words: Optional[list[str]]) -> argparse.Namespace:
@@ -145,8 +145,8 @@ def main(words: Optional[list[str]] = None) -> int:
         if (error.name or "").partition(".")[0] != "smartcard":
             raise
         lines = ["pyscard is missing: install the package python3-pyscard, or pyscard with pip"]
-    except (ValueError, OSError) as error:
-        lines = str(error).split("\n")
+    except (ValueError, OSError, KeyboardInterrupt) as error:
+        lines = (str(error) or "interrupted").split("\n")
     if len(lines) > _SHOWN:
         lines[_SHOWN:] = [f"and {len(lines) - _SHOWN} more mistakes"]
     for line in lines:

@@ -46,6 +46,11 @@ def folder_of_programs():
     return built if os.path.exists(f"{built}/trace_explain") else kept
 
 
+def refused(line):
+    """What a run returns that is refused with this line."""
+    return 2, "", f"galliumtoad.batch: {line}\n"
+
+
 def listed(out):
     """The rows to decide in a run's summary."""
     words = [line.split() for line in out.splitlines() if line.startswith("row ")]
@@ -89,6 +94,10 @@ class Room:
     def add_reader(self, name):
         (self.path / name).mkdir(exist_ok=True)
         self.put_in(name, "0")
+
+    def id_of(self, number, reader=0):
+        """The identifier of a reader's card of this number."""
+        return f"{self.names[reader]}-{number}".encode().hex().upper()
 
     def put_in(self, name, card):
         """Puts a card of this number into a reader."""

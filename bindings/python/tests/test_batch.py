@@ -15,7 +15,7 @@ import time
 import pytest
 from galliumtoad import Card, Select, Terminal
 from galliumtoad.batch.script import Recorder, Script, carry_out, check_of
-from room import AID, FULL, HERE, SCRIPT, STANDIN, Room, ended, listed, steps_of, told
+from room import AID, FULL, HERE, SCRIPT, STANDIN, Room, ended, listed, refused, steps_of, told
 
 sys.path.append(str(HERE.parents[2] / "checks/program"))
 import operations  # noqa: E402
@@ -159,8 +159,7 @@ def test_a_row_in_progress_is_not_to_be_decided(tmp_path):
     journal.identify(1, "00")
     assert room.to_decide() == {} and journal.undecided() == {}
     for word in ("done", "again"):
-        wanted = "galliumtoad.batch: row 1 is in progress\n"
-        assert room.run(f"--{word}=1")[2] == wanted
+        assert room.run(f"--{word}=1") == refused("row 1 is in progress")
         with pytest.raises(ValueError, match="row 1 is in progress"):
             journal.decide(1, word)
     os.close(journal._file)
@@ -264,9 +263,7 @@ def test_readers_with_long_names(tmp_path):
     # slow enough for both readers to be served at once
     room.environment["SLOW"] = "0.1"
     for end in (" 00 00", " 01 00"):
-        reader = tmp_path / f"{'R' * 100}{os.getpid()}{end}"
-        reader.mkdir()
-        (reader / "card").write_text("0")
+        room.add_reader(f"{'R' * 100}{os.getpid()}{end}")
     status, out, error = room.run("--reader= 00 00", "--reader= 01 00")
     assert (status, error) == (0, "") and out.endswith("6 of 6 rows done, 0 to decide\n")
     assert "set aside" not in out
@@ -276,14 +273,9 @@ def test_each_card_that_does_not_answer_is_named(tmp_path):
     room = Room(tmp_path, 2)
     room.environment["MUTE"] = "0 2 3"
     name, mute = room.names[0], "the card does not answer to reset"
+    said = [mute, "row 1 done", mute, mute, "row 2 done"]
     assert told(room.run()[1]) == [
-        f"{name}: {mute}",
-        f"{name}: row 1 done",
-        f"{name}: {mute}",
-        f"{name}: {mute}",
-        f"{name}: row 2 done",
-        "2 of 2 rows done, 0 to decide",
-    ]
+        *(f"{name}: {it}" for it in said), "2 of 2 rows done, 0 to decide"]
 
 
 def test_a_journal_that_was_cut(tmp_path):
@@ -352,24 +344,20 @@ def test_a_full_disk(tmp_path):
 
 def test_a_card_of_another_profile_takes_no_row(tmp_path):
     room = Room(tmp_path, 1)
-    (tmp_path / room.names[0] / "card").write_text("5")
+    room.put_in(room.names[0], 5)
     status, out, _ = room.run()
     assert status == 0 and told(out) == [
         f"{room.names[0]}: row 1 unused: select was answered 6A82 file or application not found",
-        f"{room.names[0]}: row 1 done",
-        "1 of 1 rows done, 0 to decide",
-    ]
+        f"{room.names[0]}: row 1 done", "1 of 1 rows done, 0 to decide"]
 
 
 def test_a_card_without_an_identifier_takes_no_row(tmp_path):
     room = Room(tmp_path, 1)
-    (tmp_path / room.names[0] / "card").write_text("17")
+    room.put_in(room.names[0], 17)
     why = "its reading was answered 6A88 referenced data not found"
-    name, card = room.names[0], f"{room.names[0]}-18".encode().hex().upper()
     assert told(room.run("--id=9F7F")[1])[:2] == [
-        f"{name}: row 1 unused: the card has no identifier 9F7F: {why}",
-        f"{name}: row 1 done, card {card}",
-    ]
+        f"{room.names[0]}: row 1 unused: the card has no identifier 9F7F: {why}",
+        f"{room.names[0]}: row 1 done, card {room.id_of(18)}"]
 
 
 def test_the_card_of_a_crashed_run_waits(tmp_path):
@@ -409,7 +397,7 @@ def test_a_card_that_was_changed_before_it_is_connected(tmp_path):
 
 def test_a_card_that_stores_another_byte_has_failed(tmp_path):
     room = Room(tmp_path, 1)
-    (tmp_path / room.names[0] / "card").write_text("11")
+    room.put_in(room.names[0], 11)
     status, out, _ = room.run()
     why = "put 50 was answered 9000, and read back another value"
     assert status == 1 and told(out)[0] == f"{room.names[0]}: row 1 failed: {why}"
@@ -495,21 +483,18 @@ def test_another_file_is_no_journal_and_stays(tmp_path, text):
     """Nor does one hinder the journal beside it."""
     room = Room(tmp_path, 1)
     (tmp_path / "journal").write_bytes(text)
-    wanted = "galliumtoad.batch: journal is not a journal: line 1 is no heading of one\n"
-    assert room.run() == (2, "", wanted)
+    wrong = "journal is not a journal: line 1 is no heading of one"
+    assert room.run() == refused(wrong)
     assert room.run("--check", "--new", "--journal=other")[0] == 0
-    status, _, error = room.run("--new")
-    wanted = "galliumtoad.batch: journal exists: without --new the batch continues\n"
-    assert (status, error) == (2, wanted)
+    assert room.run("--new") == refused("journal exists: without --new the batch continues")
     assert (tmp_path / "journal").read_bytes() == text
 
 
 def test_a_journal_that_can_not_be_written_is_named(tmp_path):
     room = Room(tmp_path, 1)
     (tmp_path / "journal").mkdir()
-    wanted = "galliumtoad.batch: [Errno 21] Is a directory: 'journal'\n"
-    assert room.run() == (2, "", wanted) and room.run("--new") == (2, "", wanted)
-    assert not room.held()
+    wanted = refused("[Errno 21] Is a directory: 'journal'")
+    assert room.run() == room.run("--new") == wanted and not room.held()
 
 
 @pytest.mark.parametrize(
@@ -633,14 +618,14 @@ def test_a_run_that_is_interrupted_twice_lists_its_row(tmp_path):
 def test_without_a_pcscd_no_reader_is_chosen(tmp_path):
     room = Room(tmp_path, 1)
     (tmp_path / "gone").touch()
-    assert room.run() == (2, "", "galliumtoad.batch: error 9\n")
+    assert room.run() == refused("error 9")
     assert not (tmp_path / "journal").exists()
 
 
 def test_a_missing_file_is_named(tmp_path):
     room = Room(tmp_path, 1)
     (tmp_path / "rows.csv").unlink()
-    assert room.run()[2] == "galliumtoad.batch: [Errno 2] No such file or directory: 'rows.csv'\n"
+    assert room.run() == refused("[Errno 2] No such file or directory: 'rows.csv'")
 
 
 def test_two_runs_at_once(tmp_path):

@@ -7,13 +7,9 @@ import re
 
 import pytest
 from galliumtoad.batch.journal import Heading
-from room import Room, listed
+from room import Room, listed, refused
 
 NOT_TOLD = "without --id it can't tell cards apart: a card inserted twice gets two rows\n"
-
-
-def id_of(room, number, reader=0):
-    return f"{room.names[reader]}-{number}".encode().hex().upper()
 
 
 def same_card(room, times, number=0):
@@ -25,7 +21,7 @@ def test_a_card_that_is_inserted_three_times_has_one_row(tmp_path):
     room = Room(tmp_path, 3)
     same_card(room, 3)
     status, out, _ = room.run("--id=9F7F")
-    said = rf"row 2 unused, \d+\.\d s: card {id_of(room, 0)} has row 1, which is done\n"
+    said = rf"row 2 unused, \d+\.\d s: card {room.id_of(0)} has row 1, which is done\n"
     assert status == 0 and out.count("has row 1, which is done") == 2, out
     assert re.search(said, out)
     assert [room.cards_of(row) for row in (1, 2, 3)] == [(1, 1)] * 3
@@ -37,9 +33,9 @@ def test_a_script_that_only_reads_knows_its_cards_too(tmp_path):
     room.write("script", "select A0000000031010\nget 9F7F\n")
     same_card(room, 3)
     status, out, _ = room.run("--id=9F7F")
-    assert status == 0 and out.count(f"card {id_of(room, 0)} has row 1, which is done") == 2, out
+    assert status == 0 and out.count(f"card {room.id_of(0)} has row 1, which is done") == 2, out
     for number in range(3):
-        assert f"row {number + 1} done, card {id_of(room, number)}, " in out
+        assert f"row {number + 1} done, card {room.id_of(number)}, " in out
 
 
 @pytest.mark.parametrize(("number", "state"), [(11, "failed"), (7, "unsure")])
@@ -48,7 +44,7 @@ def test_a_card_whose_row_is_not_done_is_refused_too(tmp_path, number, state):
     room.put_in(room.names[0], number)
     same_card(room, 2, number)
     out = room.run("--id=9F7F", "--stop-after=9")[1]
-    assert f"card {id_of(room, number)} has row 1, which is {state}" in out
+    assert f"card {room.id_of(number)} has row 1, which is {state}" in out
     assert listed(out) == {1: state}
 
 
@@ -58,7 +54,7 @@ def test_a_journal_that_an_editor_wrote_with_other_ends_of_lines_knows_its_cards
     file.write_bytes(b"\r\n".join(file.read_bytes().splitlines()[:4]) + b"\r\n")
     room.put_in(room.names[0], 0)
     status, out, _ = room.run()
-    assert status == 0 and f"card {id_of(room, 0)} has row 1, which is done" in out
+    assert status == 0 and f"card {room.id_of(0)} has row 1, which is done" in out
     assert room.events()[3:] == ["begin 2", "unused 2", "begin 2", "card 2", "done 2"]
 
 
@@ -83,7 +79,7 @@ def test_again_writes_a_row_once_more_to_its_card(tmp_path):
     room.put_in(room.names[0], 2)
     status, out, _ = room.run()
     assert status == 0
-    assert f"row 3 done, card {id_of(room, 2)}" in out
+    assert f"row 3 done, card {room.id_of(2)}" in out
     assert room.events()[-8:] == [
         *("begin 1", "unused 1", "begin 3", "card 3", "done 3"),
         *("begin 1", "card 1", "done 1"),
@@ -104,8 +100,8 @@ def test_a_journal_keeps_its_identifier(tmp_path):
     room.put_in(room.names[0], 7)
     assert room.run("--id=9F7F", "--stop-after=1")[0] == 1
     room.put_in(room.names[0], 7)
-    assert f"card {id_of(room, 7)} has row 1, which is unsure" in room.run()[1]
-    assert room.run("--id=50")[2] == "galliumtoad.batch: journal was created with --id 9F7F\n"
+    assert f"card {room.id_of(7)} has row 1, which is unsure" in room.run()[1]
+    assert room.run("--id=50") == refused("journal was created with --id 9F7F")
 
 
 def test_a_card_that_lies_in_the_reader_waits(tmp_path):
@@ -127,9 +123,8 @@ def test_a_mistyped_journal_does_not_begin_again(tmp_path):
     room = Room(tmp_path, 2)
     assert room.run()[0] == 0
     for words in (("--go",), ("--status",), ("--check",), ("--done=1",), ("--look=1",)):
-        status, out, error = room.run("--journal=jurnal", *words, *room.readers)
-        wanted = "galliumtoad.batch: there is no journal jurnal: --new creates it\n"
-        assert (status, out, error) == (2, "", wanted)
+        wanted = refused("there is no journal jurnal: --new creates it")
+        assert room.run("--journal=jurnal", *words, *room.readers) == wanted
     assert not (tmp_path / "jurnal").exists() and len(room.held()) == 2
 
 
@@ -138,10 +133,8 @@ def test_new_refuses_a_journal_that_exists(tmp_path):
     assert room.run()[0] == 0
     before = (tmp_path / "journal").read_bytes()
     for words in ((), ("--check",)):
-        status, _, error = room.run("--new", *room.readers, *words)
-        assert (status, error) == (
-            2, "galliumtoad.batch: journal exists: without --new the batch continues\n"
-        )
+        wanted = refused("journal exists: without --new the batch continues")
+        assert room.run("--new", *room.readers, *words) == wanted
     assert (tmp_path / "journal").read_bytes() == before
 
 
@@ -150,9 +143,8 @@ def test_a_second_journal_in_the_folder_is_refused(tmp_path):
     assert room.run()[0] == 0
     (tmp_path / "there").mkdir()
     for other in ("second", "there/second"):
-        status, out, error = room.run(f"--journal={other}", "--new", *room.readers)
-        wanted = f"galliumtoad.batch: rows.csv has another journal, {tmp_path}/journal\n"
-        assert (status, out, error) == (2, "", wanted)
+        wanted = refused(f"rows.csv has another journal, {tmp_path}/journal")
+        assert room.run(f"--journal={other}", "--new", *room.readers) == wanted
         assert not (tmp_path / other).exists()
     assert len(room.held()) == 2
 
@@ -165,8 +157,8 @@ def test_a_table_names_a_journal_elsewhere(tmp_path):
     link = tmp_path / "rows.csv.1-of-1.journal"
     assert link.is_symlink() and link.resolve() == tmp_path / "one/journal"
     second = ("--journal=two/journal", "--new", *room.readers)
-    wanted = f"galliumtoad.batch: rows.csv has another journal, {tmp_path}/one/journal\n"
-    assert room.run(*second) == (2, "", wanted)
+    wanted = refused(f"rows.csv has another journal, {tmp_path}/one/journal")
+    assert room.run(*second) == wanted
     # a journal that was thrown away on purpose
     (tmp_path / "one/journal").unlink()
     assert room.run(*second)[0] == 0 and link.resolve() == tmp_path / "two/journal"
@@ -202,8 +194,8 @@ def test_a_second_journal_beside_the_first_is_refused(tmp_path):
     (tmp_path / "one").mkdir()
     assert room.run("--journal=one/journal", "--new", *room.readers)[0] == 0
     (tmp_path / "rows.csv.1-of-1.journal").unlink()
-    wanted = f"galliumtoad.batch: rows.csv has another journal, {tmp_path}/one/journal\n"
-    assert room.run("--journal=one/second", "--new", *room.readers) == (2, "", wanted)
+    wanted = refused(f"rows.csv has another journal, {tmp_path}/one/journal")
+    assert room.run("--journal=one/second", "--new", *room.readers) == wanted
 
 
 def test_parts_meet_where_they_share_a_row():
@@ -218,7 +210,7 @@ def test_a_row_that_is_done_is_not_done_again(tmp_path):
     room = Room(tmp_path, 1)
     assert room.run()[0] == 0
     before = room.journal()
-    assert room.run("--done=1") == (2, "", "galliumtoad.batch: row 1 is done\n")
+    assert room.run("--done=1") == refused("row 1 is done")
     assert room.journal() == before
 
 
@@ -226,17 +218,16 @@ def test_a_copy_of_a_journal_is_refused(tmp_path):
     room = Room(tmp_path, 1)
     assert room.run()[0] == 0
     (tmp_path / "copy").write_bytes((tmp_path / "journal").read_bytes())
-    status, _, error = room.run("--journal=copy", *room.readers)
-    assert status == 2 and error.endswith(f"rows.csv has another journal, {tmp_path}/journal\n")
+    wanted = refused(f"rows.csv has another journal, {tmp_path}/journal")
+    assert room.run("--journal=copy", *room.readers) == wanted
 
 
 def test_a_journal_of_another_table_is_refused(tmp_path):
     room = Room(tmp_path, 1)
     assert room.run()[0] == 0
     room.write("other.csv", (tmp_path / "rows.csv").read_text())
-    status, _, error = room.run("--rows=other.csv", *room.readers)
-    wanted = f"galliumtoad.batch: journal is the journal of the table {tmp_path}/rows.csv\n"
-    assert (status, error) == (2, wanted)
+    wanted = refused(f"journal is the journal of the table {tmp_path}/rows.csv")
+    assert room.run("--rows=other.csv", *room.readers) == wanted
 
 
 def test_a_folder_that_moves_keeps_its_journal(tmp_path):
@@ -259,9 +250,8 @@ def test_a_cell_of_a_row_that_has_not_begun_may_change(tmp_path):
     assert b"PERSON X".hex() in {it["24352"] for it in room.held().values()}
     for old, new in (("PERSON 1", "PERSON Y"), ("00000001", "00000011")):
         table.write_text(text.replace(old, new))
-        status, out, error = room.run("--status")
-        wanted = "galliumtoad.batch: journal: row 1 has begun with other cells or another script\n"
-        assert (status, out, error) == (2, "", wanted)
+        wanted = refused("journal: row 1 has begun with other cells or another script")
+        assert room.run("--status") == wanted
 
 
 def test_a_row_to_write_again_may_change(tmp_path):

@@ -11,7 +11,7 @@ import time
 import pytest
 from galliumtoad import Card, Select, Terminal
 from galliumtoad.batch.script import Recorder, Script, carry_out, compared
-from room import AID, HERE, SCRIPT, Room, ended, steps_of, told
+from room import AID, HERE, SCRIPT, Room, ended, refused, steps_of, told
 
 ROW = {"name": "PERSON 1", "code": "00000001"}
 VALUES = {0x5F20: b"PERSON 1", 0x9F36: bytes.fromhex("00000001"), 0x50: b"A" * 300}
@@ -179,8 +179,8 @@ def test_machines_share_a_table(tmp_path):
     assert [[int(it.split()[0]) for it in rows] for rows in begun] == [[1, 4, 7], [2, 5], [3, 6]]
     assert room.run("--status", *journals) == (0, "7 of 7 rows done, 0 to decide\n", "")
     assert room.run("--status", *journals[:2])[1] == "5 of 5 rows done, 0 to decide\n"
-    status, _, error = room.run("--journal=j4", "--new", "--part=3/6", *room.readers)
-    assert status == 2 and error.endswith(f"rows.csv has another journal, {tmp_path}/j3\n")
+    wanted = refused(f"rows.csv has another journal, {tmp_path}/j3")
+    assert room.run("--journal=j4", "--new", "--part=3/6", *room.readers) == wanted
 
 
 @pytest.mark.parametrize("what", ["row", "card"])
@@ -196,8 +196,7 @@ def test_what_two_journals_have_is_an_error(tmp_path, what):
         (tmp_path / "j2").write_text(two.replace(mine.split()[-1], card.split()[-1]))
         wanted = f"card {card.split()[-1]} is in j1 and in j2"
     for words in ((), ("--report=all.html",)):
-        status, out, error = room.run("--status", *journals, *words)
-        assert (status, out, error) == (2, "", f"galliumtoad.batch: {wanted}\n")
+        assert room.run("--status", *journals, *words) == refused(wanted)
     assert not (tmp_path / "all.html").exists()
 
 

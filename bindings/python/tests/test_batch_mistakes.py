@@ -2,7 +2,7 @@
 line that is printed. No line shows a value of the table."""
 
 import pytest
-from room import SCRIPT, Room, main_of
+from room import SCRIPT, Room, main_of, refused
 
 HEX = "select A0000000031010\nput 9F36 {code}\n"
 AID, TAG = "select {code}\n", "put {code} 41\n"
@@ -104,7 +104,11 @@ MISTAKES = [
     *((f"script {at}", script, None, "", f"script:{line}")
       for at, (script, line) in enumerate(SCRIPTS)),
     ("no operation", "# get 50\n\n", None, "", "script has no operation"),
+    ("no operation, with --check", "# get 50\n\n", None, "--check --new",
+     "script has no operation"),
     # readers
+    ("a reader that is missing, with --check", None, None, "--check --new --reader=Gemalto",
+     "'Gemalto' names 0 readers; S"),
     ("a reader that is missing", None, None, "--reader=Gemalto", "'Gemalto' names 0 readers; S"),
     ("a name of two readers", None, None, "--reader=Slot", "'Slot' names 2 readers; S"),
     ("no reader named", None, None, "--id=9F7F", "name one with --reader; S"),
@@ -151,21 +155,9 @@ def test_a_mistake_is_named_before_any_card(tmp_path, mistake):
     program = room.words(*words_of(room, words))
     if words == "--id=9F7F":
         program = [it for it in program if not it.startswith("--reader")]
-    status, out, error = main_of(room, program[3:])
     line = line.replace("; S", f"; there are: '{room.names[0]}', '{room.names[1]}'")
-    assert (status, out, error) == (2, "", f"galliumtoad.batch: {line}\n")
+    assert main_of(room, program[3:]) == refused(line)
     assert not room.held() and not (tmp_path / "journal").exists()
-
-
-@pytest.mark.parametrize("mistake", [it for it in MISTAKES if "made" not in it[3]][::7])
-def test_check_names_the_same_mistakes_and_stops(tmp_path, mistake):
-    _, script, rows, words, line = mistake
-    room = room_of(tmp_path, script, rows)
-    how = ["--check", "--new", *words.split()]
-    how += [] if "--reader" in words else room.readers
-    status, out, error = room.run(*how)
-    line = line.replace("; S", f"; there are: '{room.names[0]}', '{room.names[1]}'")
-    assert (status, out, error) == (2, "", f"galliumtoad.batch: {line}\n")
 
 
 def test_check_finds_no_mistake_and_writes_nothing(tmp_path):
@@ -184,8 +176,8 @@ def test_check_finds_no_mistake_and_writes_nothing(tmp_path):
         assert journal.read_text() == whole[:kept]
     for other in (f"{whole}begin 1 20", whole, "name,code\n"):
         journal.write_text(other)
-        why = "galliumtoad.batch: journal exists: without --new the batch continues\n"
-        assert room.run("--check", "--new") == (2, "", why)
+        wanted = refused("journal exists: without --new the batch continues")
+        assert room.run("--check", "--new") == wanted
         assert journal.read_text() == other
 
 
@@ -240,10 +232,8 @@ def test_the_first_line_tells_what_is_between_cells(tmp_path, between):
 
 def test_no_reader_at_all(tmp_path):
     room = Room(tmp_path, 1, readers=0)
-    wanted = "galliumtoad.batch: 'X' names 0 readers; there is no reader\n"
-    assert room.run("--reader=X")[2] == wanted
-    wanted = "galliumtoad.batch: name one with --reader; there is no reader\n"
-    assert room.run("--id=50")[2] == wanted
+    assert room.run("--reader=X") == refused("'X' names 0 readers; there is no reader")
+    assert room.run("--id=50") == refused("name one with --reader; there is no reader")
 
 
 def test_without_pyscard_one_line_names_the_package(tmp_path):
@@ -253,7 +243,7 @@ def test_without_pyscard_one_line_names_the_package(tmp_path):
     (tmp_path / "smartcard/__init__.py").write_text("raise ModuleNotFoundError(name='smartcard')")
     room.environment["PYTHONPATH"] = f"{tmp_path}:{room.environment['PYTHONPATH']}"
     line = "pyscard is missing: install the package python3-pyscard, or pyscard with pip"
-    assert room.run() == (2, "", f"galliumtoad.batch: {line}\n")
+    assert room.run() == refused(line)
     assert not (tmp_path / "journal").exists()
     room.create()
     assert room.run("--status")[:2] == (1, "0 of 1 rows done, 0 to decide\n")

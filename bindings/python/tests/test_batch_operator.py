@@ -18,13 +18,10 @@ from galliumtoad import Card
 from galliumtoad.batch import report
 from galliumtoad.batch.journal import Entry
 from galliumtoad.batch.script import Recorder, Script, carry_out, compared, identity
-from room import AID, SCRIPT, Room, ended, folder_of_programs, listed, steps_of, told
+from room import (AID, SCRIPT, Room, ended, folder_of_programs, listed, refused, steps_of,
+                  told)
 
 TIME = r"\d{4}-\d\d-\d\dT\d\d:\d\d:\d\d\.\d{3}[+-]\d\d:\d\d"
-
-
-def id_of(room, number):
-    return f"{room.names[0]}-{number}".encode().hex().upper()
 
 
 def test_lines_of_a_run(tmp_path):
@@ -33,7 +30,7 @@ def test_lines_of_a_run(tmp_path):
     name = room.names[0]
     assert out[0] == "starting: 0 of 2 rows done"
     assert out[2] == f"{name}: insert a card for row 1"
-    done = rf"{name}: row (\d) done, card {id_of(room, 1)[:-2]}..(, \d+\.\d s)"
+    done = rf"{name}: row (\d) done, card {room.id_of(1)[:-2]}..(, \d+\.\d s)"
     assert [re.fullmatch(done, it)[1] for it in out if " done, card" in it] == ["1", "2"]
 
 
@@ -88,7 +85,7 @@ def test_a_row_in_doubt_is_shown_with_its_card(tmp_path):
     room.run("--stop-after=1", "--id=9F7F")
     lines = room.run("--status")[1].splitlines()
     when = r"\d{4}-\d\d-\d\d \d\d:\d\d:\d\d"
-    about = rf"row 1 unsure: card {id_of(room, 7)}, {room.names[0]}, {when}: the card was removed"
+    about = rf"row 1 unsure: card {room.id_of(7)}, {room.names[0]}, {when}: the card was removed"
     assert re.fullmatch(about, lines[0])
     assert lines[1] == "  --look 1 compares that card; then --done 1 or --again 1"
 
@@ -232,7 +229,7 @@ def test_a_dialogue_is_kept_without_a_value(tmp_path):
     assert [it.name for it in file.parent.iterdir()] == ["1.trace"]
     lines = kept.splitlines()
     why = "put 50 was answered 9000, and read back another value"
-    first = rf"# row 1, card {id_of(room, 0)}, {room.names[0]}, failed, 20[-0-9T:+]+: {why}"
+    first = rf"# row 1, card {room.id_of(0)}, {room.names[0]}, failed, 20[-0-9T:+]+: {why}"
     assert re.fullmatch(first, lines[0])
     operations = ("1: select", "2: put 5F20", "3: put {tag}", "4: send", "5: put 50")
     named = [f"# line {it}" for it in operations]
@@ -343,7 +340,7 @@ def test_reports(tmp_path):
     numbers = (10, 11, 12, 13)
     for row, (number, found) in enumerate(zip(numbers, rows[1:]), 1):
         ended = ["failed", why] if number == 11 else ["done", ""]
-        assert found[:3] == [str(row), id_of(room, number), room.names[0]] and found[5:] == ended
+        assert found[:3] == [str(row), room.id_of(number), room.names[0]] and found[5:] == ended
         assert re.fullmatch(r"\d+\.\d", found[4]) and datetime.fromisoformat(found[3])
     assert "<p>3 of 4 rows done, 1 failed, 0 unsure</p>" in text and "(median)" in text
     assert "PERSON" not in text and b"PERSON".hex().upper() not in text.upper()
@@ -387,8 +384,7 @@ def test_a_report_is_whole_at_each_moment(tmp_path):
 def test_a_report_that_can_not_be_written_is_named_before_any_card(tmp_path):
     room = Room(tmp_path, 2)
     why = f"[Errno 2] No such file or directory: 'nowhere/day.html.{os.getpid()}.new'"
-    wanted = (2, "", f"galliumtoad.batch: {why}\n")
-    assert room.run("--report=nowhere/day.html") == wanted and not room.held()
+    assert room.run("--report=nowhere/day.html") == refused(why) and not room.held()
 
 
 def test_two_processes_write_one_report(tmp_path, monkeypatch):
@@ -466,7 +462,7 @@ def test_look_finds_what_a_card_holds(tmp_path):
     room.environment["LIES"] = "yes"
     room.put_in(room.names[0], 11)
     before = room.journal()
-    card = f"card {id_of(room, 11)}"
+    card = f"card {room.id_of(11)}"
     assert room.run(*words) == (1, f"row 1, {card}: partly: 2 of 3 objects\n", "")
     # a look writes nothing, also where the card differs from the row
     file = tmp_path / f"cards/{room.names[0]}-11"
@@ -476,12 +472,11 @@ def test_look_finds_what_a_card_holds(tmp_path):
     assert room.run(*words) == (1, f"row 1, {card}: partly: 1 of 3 objects\n", "")
     assert file.read_bytes() == held
     room.put_in(room.names[0], 3)
-    wanted = f"this is card {id_of(room, 3)}, but row 1 is on {card}"
-    assert room.run(*words) == (2, "", f"galliumtoad.batch: {wanted}\n")
+    wanted = f"this is card {room.id_of(3)}, but row 1 is on {card}"
+    assert room.run(*words) == refused(wanted)
     room.put_in(room.names[0], 5)
-    where = f"galliumtoad.batch: {room.names[0]}"
-    assert room.run(*words)[2].startswith(f"{where}: the card has no identifier 9F7F: ")
-    assert room.run("--look=2", *room.readers)[2] == "galliumtoad.batch: row 2 has not begun\n"
+    assert f": {room.names[0]}: the card has no identifier 9F7F: " in room.run(*words)[2]
+    assert room.run("--look=2", *room.readers) == refused("row 2 has not begun")
     assert room.journal() == before
 
 
@@ -499,8 +494,8 @@ def test_look_finds_a_whole_row_and_waits_for_its_card(tmp_path):
     room.put_in(room.names[0], 1)
     assert room.run("--look=1", *room.readers)[1] == "row 1, the card: untouched\n"
     room.add_reader("Slot9")
-    wanted = "galliumtoad.batch: --look needs one reader\n"
-    assert room.run("--look=1", "--reader=Slot9", *room.readers)[2] == wanted
+    words = ("--look=1", "--reader=Slot9", *room.readers)
+    assert room.run(*words) == refused("--look needs one reader")
 
 
 def reason_of(script, answer):

@@ -7,6 +7,7 @@ import os
 import signal
 import tempfile
 import time
+from contextlib import contextmanager
 from dataclasses import dataclass, field
 from pathlib import Path
 
@@ -58,15 +59,22 @@ def table(folder, text):
     return path
 
 
+@contextmanager
+def at_line(*options, text="", slack=5000, name="serial_card", kinds=(), **more):
+    """A card at a line, with a table of this text if it has one. Yields the line, the program, and
+    the terminal's end for these tests, which echoes if the card has no option `--no-echo`."""
+    with tempfile.TemporaryDirectory() as folder, Line() as line:
+        path = table(folder, text) if text else TABLE
+        program = Program(name, ["--slack", slack, *options, line.name, path], **more)
+        yield line, program, Other(line, "--no-echo" not in options, *kinds)
+
+
 def run(case):
     """Plays a case. A wrong result is an error."""
-    line = Line()
-    with tempfile.TemporaryDirectory() as folder:
-        path = table(folder, f"atr {case.answer}\n{case.objects}")
-        options = case.options if case.echo else ["--no-echo", *case.options]
-        program = Program(case.program, ["--slack", case.slack, *options, line.name, path])
-        other = Other(line, case.echo, case.inverse, case.heaps)
-        played = ""
+    options = case.options if case.echo else ["--no-echo", *case.options]
+    more = {"slack": case.slack, "name": case.program, "kinds": (case.inverse, case.heaps)}
+    with at_line(*options, text=f"atr {case.answer}\n{case.objects}", **more) as it:
+        (line, program, other), played = it, ""
         try:
             play(other, case.dialogue, card=False)
             if case.mute:
@@ -167,9 +175,8 @@ def wrong_echo():
         ("55", "the echo differs from what was sent\n"),
         ("", "there is no echo\n"),
     ):
-        with Line() as line:
-            program = Program("serial_card", ["--slack", "1000", line.name, TABLE])
-            other = Other(line, echo=False)
+        with at_line(slack=1000) as (line, program, other):
+            other.echo = False
             other.take("3B")
             if echo:
                 other.send(echo)
@@ -179,27 +186,20 @@ def wrong_echo():
 
 def is_slow():
     """A card waits for its terminal without a limit, even inside a TPDU."""
-    line = Line()
-    program = Program("serial_card", ["--slack", "5000", line.name, TABLE])
-    try:
-        play(Other(line), "< 3B00 > 00CA5F ~ 1.5 > 2000 < 6985", card=False)
-    finally:
-        line.close()
+    with at_line() as (_, program, other):
+        play(other, "< 3B00 > 00CA5F ~ 1.5 > 2000 < 6985", card=False)
     look(program, program.end(), "", GONE, 1)
 
 
 def rate_after_response():
     """A card changes its rate once its PPS response was sent: 10 ms after the last character, at
     1,200 baud."""
-    with Line() as line:
-        with tempfile.TemporaryDirectory() as folder:
-            path = table(folder, f"atr 3B1095\n{APP}")
-            words = ["--no-echo", "--baud", "1200", "--slack", "5000", line.name, path]
-            program = Program("serial_card", words)
-            play(Other(line, echo=False), "< 3B1095 > FF10957A < FF10957A", card=False)
-            early = rate_of(line)
-            time.sleep(0.2)
-            late = rate_of(line)
+    options = ["--no-echo", "--baud", "1200"]
+    with at_line(*options, text=f"atr 3B1095\n{APP}") as (line, program, other):
+        play(other, "< 3B1095 > FF10957A < FF10957A", card=False)
+        early = rate_of(line)
+        time.sleep(0.2)
+        late = rate_of(line)
     look(program, program.end(), "", GONE, 1)
     assert late == 13950, f"the tty runs at {late} baud"
     if early != 1200:
@@ -208,9 +208,8 @@ def rate_after_response():
 
 def puts_back():
     """A signal ends a card, which restores its tty."""
-    with Line() as line:
-        program = Program("serial_card", ["--slack", "5000", line.name, TABLE])
-        play(Other(line), "< 3B00 > 00CA5F", card=False)
+    with at_line() as (line, program, other):
+        play(other, "< 3B00 > 00CA5F", card=False)
         assert not line.is_put_back(), "the tty was not set"
         program.kill(signal.SIGTERM)
         look(program, program.end(), "", "", -signal.SIGTERM)
@@ -224,11 +223,17 @@ class Far:
         self.program = Program("serial_card", ["--pty", *words])
         self.name = self.program.first_line()
 
-    def opened(self, echo=True):
+    def opened(self):
         """Opens the near end for these tests. The caller closes it."""
         near = Line.__new__(Line)
         near.far, near.near = os.open(self.name, os.O_RDWR | os.O_NOCTTY), -1
         return near, Other(near, echo=False)
+
+    def plays(self, dialogue):
+        """Opens the near end, plays a dialogue, and closes it."""
+        near, other = self.opened()
+        play(other, dialogue, card=False)
+        near.close()
 
     def end(self, output="", fault=""):
         self.program.kill(signal.SIGTERM)
@@ -246,9 +251,7 @@ def opening_is_the_reset():
         "",
         "< 3B00 " + ASK_WORDS + SELECT_WORDS + "> 00CA5F2006 < CA5F2003414E4E9000",
     ):
-        near, other = far.opened()
-        play(other, dialogue, card=False)
-        near.close()
+        far.plays(dialogue)
         time.sleep(0.3)
     far.end()
 
@@ -277,33 +280,26 @@ def mute_and_reopened():
         play(other, "< 3B00 > FF11FE00", card=False)
         assert far.program.first_fault(15) == NO_PPS
         near.close()
-    near, other = far.opened()
-    play(other, "< 3B00 " + ASK_WORDS, card=False)
-    near.close()
+    far.plays("< 3B00 " + ASK_WORDS)
     far.end()
 
 
 def gives_the_echo():
     """A card's own line returns the terminal's echo before the card's characters."""
     far = Far(TABLE)
-    near, other = far.opened()
-    play(other, "< 3B00 > 00 < 00 > CA < CA > 5F < 5F > 20 < 20 > 00 < 006985", card=False)
-    near.close()
+    far.plays("< 3B00 > 00 < 00 > CA < CA > 5F < 5F > 20 < 20 > 00 < 006985")
     far.end()
 
 
 def is_not_read():
     """A terminal that reads nothing does not stop the card, which waits for the next terminal."""
-    words = ["--no-echo", "--baud", "1000000", "--plan", "n" * 100000, TABLE]
-    far = Far(*words)
+    far = Far("--no-echo", "--baud", "1000000", "--plan", "n" * 100000, TABLE)
     near, other = far.opened()
     play(other, "< 3B00 > 00CA5F2000", card=False)
     told = far.program.first_fault(15)
     near.close()
     time.sleep(0.3)
-    near, other = far.opened()
-    play(other, "< 3B00 " + ASK_WORDS, card=False)
-    near.close()
+    far.plays("< 3B00 " + ASK_WORDS)
     far.end()
     assert told == "the tty takes no more characters\n", f"it tells {told!r}"
 
@@ -317,9 +313,7 @@ def mute_until_reset():
     other.take_nothing(0.3)
     near.close()
     time.sleep(0.3)
-    near, other = far.opened()
-    play(other, "< 3B00 " + ASK_WORDS, card=False)
-    near.close()
+    far.plays("< 3B00 " + ASK_WORDS)
     far.end(fault=NO_PPS)
 
 
@@ -362,22 +356,16 @@ def warns():
         ("3B1071", "", ASK_WORDS),
         ("3B90951000", "", ASK_WORDS),
     ):
-        line = Line()
-        with tempfile.TemporaryDirectory() as folder:
-            path = table(folder, f"atr {answer}\n{APP}")
-            program = Program("serial_card", ["--no-echo", line.name, path])
-            play(Other(line, echo=False), f"< {answer} {words}", card=False)
-            line.close()
-            if warning:
-                warning = f"warning: gt_serial refuses this answer to reset: {warning}\n"
-            look(program, program.end(), "", warning + GONE, 1)
+        with at_line("--no-echo", text=f"atr {answer}\n{APP}") as (_, program, other):
+            play(other, f"< {answer} {words}", card=False)
+        if warning:
+            warning = f"warning: gt_serial refuses this answer to reset: {warning}\n"
+        look(program, program.end(), "", warning + GONE, 1)
 
 
 def closed_descriptors():
     """Text for a closed descriptor does not reach the terminal. A lost trace is a fault."""
-    with Line() as line:
-        program = Program("serial_card", ["-v", "--no-echo", line.name, TABLE], before="exec 1>&-")
-        other = Other(line, echo=False)
+    with at_line("-v", "--no-echo", before="exec 1>&-") as (_, program, other):
         play(other, "< 3B00 > 00CA5F2000 < 6985", card=False)
         other.take_nothing(0.1)
     look(program, program.end(), "", "write fault\n", 1)
@@ -387,10 +375,9 @@ def closed_descriptors():
 
 def full_device():
     """If its trace can't be written, a card prints that after the dialogue, and ends."""
-    with Line() as line:
-        with open("/dev/full", "wb") as full:
-            program = Program("serial_card", ["-v", "--no-echo", line.name, TABLE], stdout=full)
-        play(Other(line, echo=False), "< 3B00 " + ASK_WORDS, card=False)
+    with open("/dev/full", "wb") as full, at_line("-v", "--no-echo", stdout=full) as it:
+        (_, program, other) = it
+        play(other, "< 3B00 " + ASK_WORDS, card=False)
     look(program, program.end(), "", "write fault\n", 1)
 
 

@@ -13,9 +13,9 @@ import card_cases
 import explained
 import t1_card
 import terminal_cases
-from lines import Line, Other, play, trace_of
+from lines import Line, play, trace_of
 from programs import Program, in_time, must_end
-from terminal_cases import Case, look
+from terminal_cases import Case, at_line, look
 
 SELECT_APDU = "00A4040007A000000003101000"
 NAME = "6F098407A00000000310109000"
@@ -90,9 +90,8 @@ def dialogues():
 
 def block_waiting_time():
     """A terminal that gets no block asks again after BWT and the slack, together 0.3 s."""
-    with Line() as line:
-        program = Program("gt_serial", ["--no-echo", line.name, *terminal_cases.SELECT])
-        other = Other(line, echo=False)
+    select = terminal_cases.SELECT
+    with at_line("--no-echo", words=select, echo=False, slack=None) as (_, program, other):
         play(other, f"< {QUICK} " + talk(*[">", "C1:FE"] * 5, ">", f"00:{SELECT_APDU}",
                                          *[">", "82"] * 4), card=True)
         look(program, program.end(), "", CAUSE + OUTCOMES["unknown"], 1)
@@ -106,10 +105,8 @@ def block_guard_time():
     ms. A busy machine is late at some blocks, so there are eight."""
     gets = [talk(">", f"{pcb}:{GET_APDU}", "~", "0.1", "<", f"{pcb}:{JOE}")
             for pcb in ("40", "00") * 4]
-    with Line() as line:
-        program = Program("gt_serial", ["--no-echo", "--baud", "1200", "--slack", "5000", line.name,
-                                        *terminal_cases.SELECT, *terminal_cases.GET * 8])
-        other = Other(line, echo=False)
+    words = [*terminal_cases.SELECT, *terminal_cases.GET * 8]
+    with at_line("--no-echo", "--baud", "1200", words=words, echo=False) as (_, program, other):
         play(other, f"< {QUICK} {OPEN}{SELECTS}{''.join(gets)}", card=True)
         look(program, program.end(), terminal_cases.SELECTED + terminal_cases.GOT * 8, "", 0)
         select, get = 4 + len(SELECT_APDU) // 2, 4 + len(GET_APDU) // 2
@@ -221,10 +218,9 @@ def patience():
 
 def gives_up(dialogue, rest):
     """Plays a dialogue, and then sends the rest again and again, until the terminal ends."""
-    with Line() as line:
-        words = ["--no-echo", "--patience", "1", line.name, *terminal_cases.SELECT]
-        program = Program("gt_serial", words)
-        other = Other(line, echo=False, heaps=True)
+    select = {"words": terminal_cases.SELECT, "echo": False, "slack": None}
+    with at_line("--no-echo", "--patience", "1", **select) as (line, program, other):
+        other.heaps = True
         play(other, f"< {QUICK} {dialogue}", card=True)
         began = time.monotonic()
         while program.process.poll() is None and time.monotonic() < began + 10:
@@ -310,19 +306,16 @@ def at_card():
 
 def never_stops():
     """A card is mute, and ends without a reset, if its terminal does not stop sending."""
-    with Line() as line:
-        with tempfile.TemporaryDirectory() as folder:
-            path = card_cases.table(folder, f"atr {QUICK}\n{card_cases.APP}")
-            program = Program("serial_card", ["--no-echo", "--slack", "5000", line.name, path])
-            other = Other(line, echo=False)
-            play(other, f"< {QUICK} > {block('C1', 'FE')}", card=False)
-            for _ in range(10000):
-                if program.process.poll() is not None:
-                    break
-                other.send("00")
-                time.sleep(0.0005)
-            other.take_nothing(0)
-            look(program, program.end(), "", "the other end does not stop sending\n", 1)
+    text = f"atr {QUICK}\n{card_cases.APP}"
+    with card_cases.at_line("--no-echo", text=text) as (_, program, other):
+        play(other, f"< {QUICK} > {block('C1', 'FE')}", card=False)
+        for _ in range(10000):
+            if program.process.poll() is not None:
+                break
+            other.send("00")
+            time.sleep(0.0005)
+        other.take_nothing(0)
+        look(program, program.end(), "", "the other end does not stop sending\n", 1)
 
 
 def each_opening():
@@ -335,9 +328,7 @@ def each_opening():
             card_cases.ASK_WORDS,
             f"> FF01FE < FF01FE {OPEN}" + talk(">", f"00:{GET_APDU}", "<", "00:6985"),
         ):
-            near, other = far.opened()
-            play(other, f"< {BY_PPS} {dialogue}", card=False)
-            near.close()
+            far.plays(f"< {BY_PPS} {dialogue}")
             time.sleep(0.3)
         far.end()
 

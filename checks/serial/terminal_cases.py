@@ -8,6 +8,7 @@ import os
 import signal
 import struct
 import time
+from contextlib import contextmanager
 from dataclasses import dataclass, field
 
 from lines import Line, Other, play, trace_of
@@ -603,6 +604,15 @@ def all_cases():
     return [case for part in parts for case in part()]
 
 
+@contextmanager
+def at_line(*options, words=SHORT, echo=True, slack=5000, **more):
+    """A terminal at a line. Yields the line, the program, and the card's end for these tests."""
+    with Line() as line:
+        slack = [] if slack is None else ["--slack", slack]
+        program = Program("gt_serial", [*slack, *options, line.name, *words], **more)
+        yield line, program, Other(line, echo)
+
+
 def guard_time():
     """Each character follows the one before after 12 + N etu, which is 93.3 ms with N = 100: with
     an echo and without. With T=15 that is the same, since Fi/Di cycles are an etu here. N = 255
@@ -618,10 +628,8 @@ def guard_time():
 
 def gaps_after(answer, echo):
     """Returns the pauses between the characters of a header, after this answer to reset."""
-    with Line() as line:
-        words = ["--baud", "1200", "--slack", "5000", *([] if echo else ["--no-echo"]), line.name]
-        program = Program("gt_serial", [*words, *SHORT])
-        other = Other(line, echo=echo)
+    no_echo = [] if echo else ["--no-echo"]
+    with at_line("--baud", "1200", *no_echo, echo=echo) as (_, program, other):
         play(other, f"< {answer} " + SHORT_WORDS + DONE, card=True)
         look(program, program.end(), "= 9000\n", "", 0)
         return other.gaps[1:]
@@ -630,9 +638,7 @@ def gaps_after(answer, echo):
 def puts_back(number):
     """A signal ends the program, which restores the tty. Before that the tty is set for the
     line."""
-    with Line() as line:
-        program = Program("gt_serial", ["--slack", "60000", line.name, *SHORT])
-        other = Other(line)
+    with at_line(slack=60000) as (line, program, other):
         play(other, "< 3B00 " + SHORT_WORDS, card=True)
         assert not line.is_put_back(), "the tty was not set"
         program.kill(number)
@@ -644,11 +650,8 @@ def puts_back(number):
 def turn_time():
     """The terminal sends at the earliest 16 etu after the start of the card's character, so 6 etu
     after its end: 5 ms at 1,200 baud."""
-    with Line() as line:
-        # a header takes 50 ms; a busy machine is late at some turns, so there are twelve
-        words = ["--baud", "1200", "--slack", "5000", line.name, *SHORT * 12]
-        program = Program("gt_serial", words)
-        other = Other(line)
+    # a header takes 50 ms; a busy machine is late at some turns, so there are twelve
+    with at_line("--baud", "1200", words=SHORT * 12) as (_, program, other):
         play(other, "< 3B00 " + (SHORT_WORDS + "~ 0.08 " + DONE) * 12, card=True)
         look(program, program.end(), "= 9000\n" * 12, "", 0)
         assert min(other.gaps[5::5]) >= 0.005, f"{other.gaps}"
@@ -657,11 +660,8 @@ def turn_time():
 def late_echo():
     """With N = 4 a character comes at the earliest 6 etu after the echo of the one before, however
     late that is: 5 ms at 1,200 baud. A busy machine is late at some, so there are sixteen."""
-    line, gaps = Line(), []
-    try:
-        words = ["--baud", "1200", "--slack", "5000", line.name, *SHORT * 4]
-        program = Program("gt_serial", words)
-        other = Other(line, echo=False)
+    gaps = []
+    with at_line("--baud", "1200", words=SHORT * 4, echo=False) as (_, program, other):
         play(other, "< 3B4004", card=True)
         for _ in range(4):
             for byte in ("00", "20", "00", "00", "00"):
@@ -673,16 +673,12 @@ def late_echo():
             other.send("9000")
         look(program, program.end(), "= 9000\n" * 4, "", 0)
         assert min(gaps) >= 0.005, f"{gaps}"
-    finally:
-        line.close()
 
 
 def wrong_echo():
     """A wrong echo, at the first place and at a later one."""
     for echo in ("55", "00201000"):
-        with Line() as line:
-            program = Program("gt_serial", ["--slack", "5000", line.name, *SHORT])
-            other = Other(line, echo=False)
+        with at_line(echo=False) as (_, program, other):
             play(other, f"< 3B00 > 0020 < {echo}", card=True)
             look(program, program.end(), "",
                  "operation 1: the echo differs from what was sent\n", 1)
@@ -691,10 +687,9 @@ def wrong_echo():
 def no_echo_of_data():
     """The echo of the first of 255 characters must be there after 10 ms and the slack, at 1,200
     baud. The last takes 2.55 s."""
-    with Line() as line:
-        words = ["--baud", "1200", line.name, "put", "5F20", "41*255"]
-        program = Program("gt_serial", words)
-        play(Other(line), "< 3B00 > 00DA5F20FF < DA", card=True)
+    words = ["put", "5F20", "41*255"]
+    with at_line("--baud", "1200", words=words, slack=None) as (_, program, other):
+        play(other, "< 3B00 > 00DA5F20FF < DA", card=True)
         began = time.monotonic()
         look(program, program.end(), "", "operation 1: there is no echo\n", 1)
         must_end(time.monotonic() - began, 0.15, 2.0)
@@ -702,10 +697,7 @@ def no_echo_of_data():
 
 def passes_over_a_signal():
     """SIGHUP does not end a program that is started with it ignored, as by nohup."""
-    with Line() as line:
-        program = Program("gt_serial", ["--slack", "5000", line.name, *SHORT],
-                          before='trap "" HUP')
-        other = Other(line)
+    with at_line(before='trap "" HUP') as (_, program, other):
         play(other, "< 3B00 " + SHORT_WORDS, card=True)
         program.kill(signal.SIGHUP)
         time.sleep(0.2)
@@ -720,21 +712,17 @@ def line_gone():
         ("< 3B00 " + SHORT_WORDS, "operation 1: the line is gone\n"),
         ("< 3B", "the line is gone\n"),
     ):
-        line = Line()
-        program = Program("gt_serial", ["--slack", "5000", line.name, *SHORT])
-        play(Other(line), dialogue, card=True)
-        time.sleep(0.3)
-        line.close()
+        with at_line() as (_, program, other):
+            play(other, dialogue, card=True)
+            time.sleep(0.3)
         look(program, program.end(), "", fault, 1)
 
 
 def nulls_for_ever(options, seconds, clock):
     """The program gives up a card that sends only NULLs after the time of --patience, or after 600
     s. Its clock is faster than that of these tests."""
-    with Line() as line:
-        words = [*options, "--slack", "2000", line.name, *SHORT]
-        program = Program("gt_serial", words, environment={"STANDIN_CLOCK": str(clock)})
-        other = Other(line)
+    names = {"STANDIN_CLOCK": str(clock)}
+    with at_line(*options, slack=2000, environment=names) as (_, program, other):
         play(other, "< 3B00 " + SHORT_WORDS, card=True)
         began = time.monotonic()
         while program.process.poll() is None and time.monotonic() < began + 10:
@@ -749,9 +737,7 @@ def is_quiet():
     """How long the card is silent before a header. A busy machine is late at some."""
     long = ["--no-echo", "--quiet", "100"]
     for options, least in (([], 0.0), (["--no-echo"], 0.02), (long, 0.1)):
-        with Line() as line:
-            program = Program("gt_serial", ["--slack", "5000", *options, line.name, *SHORT * 8])
-            other = Other(line, echo=not options)
+        with at_line(*options, words=SHORT * 8, echo=not options) as (_, program, other):
             play(other, "< 3B00 " + (SHORT_WORDS + DONE) * 8, card=True)
             look(program, program.end(), "= 9000\n" * 8, "", 0)
             gap = min(other.gaps[5::5])
@@ -760,10 +746,8 @@ def is_quiet():
 
 def is_stopped():
     """A program that is stopped before a header still finds what arrived in that time."""
-    with Line() as line:
-        words = ["--slack", "5000", "--no-echo", "--quiet", "200", line.name, *SHORT * 2]
-        program = Program("gt_serial", words)
-        other = Other(line, echo=False)
+    options = ["--no-echo", "--quiet", "200"]
+    with at_line(*options, words=SHORT * 2, echo=False) as (_, program, other):
         play(other, "< 3B00 " + SHORT_WORDS + DONE, card=True)
         time.sleep(0.05)
         program.kill(signal.SIGSTOP)
@@ -776,9 +760,7 @@ def is_stopped():
 def settings():
     """The settings of the tty while the terminal talks: raw, 8 bits, 2 stop bits. A pseudo terminal
     has no parity."""
-    with Line() as line:
-        program = Program("gt_serial", ["--slack", "5000", line.name, *SHORT])
-        other = Other(line)
+    with at_line() as (line, program, other):
         play(other, "< 3B00 " + SHORT_WORDS, card=True)
         input_flags, output_flags, control, local, *_ = line.settings()
         other.send("9000")
@@ -788,24 +770,16 @@ def settings():
 
 
 def full_device():
-    """If an answer can't be printed, that is a fault, and the tty is restored."""
-    for options in ([], ["-v"]):
-        with Line() as line:
-            with open("/dev/full", "wb") as full:
-                words = ["--slack", "2000", *options, line.name, *SHORT]
-                program = Program("gt_serial", words, stdout=full)
-            play(Other(line), "< 3B00 " + SHORT_WORDS + DONE, card=True)
-            look(program, program.end(), "", "operation 1: write fault\n", 1)
+    """If an answer can't be printed, also the values of one to reset, that is a fault, and the tty
+    is restored."""
+    for options, words, dialogue, place in (([], SHORT, SHORT_WORDS + DONE, "operation 1: "),
+                                            (["-v"], SHORT, SHORT_WORDS + DONE, "operation 1: "),
+                                            ([], [], "", "")):
+        with open("/dev/full", "wb") as full, at_line(
+                *options, words=words, slack=2000, stdout=full) as (line, program, other):
+            play(other, "< 3B00 " + dialogue, card=True)
+            look(program, program.end(), "", f"{place}write fault\n", 1)
             assert line.is_put_back(), "the tty is not set as it was before"
-
-
-def full_device_for_an_answer():
-    """The same for the values of an answer to reset."""
-    with Line() as line:
-        with open("/dev/full", "wb") as full:
-            program = Program("gt_serial", ["--slack", "2000", line.name], stdout=full)
-        play(Other(line), "< 3B00", card=True)
-        look(program, program.end(), "", "write fault\n", 1)
 
 
 def nobody_reads():
@@ -830,10 +804,7 @@ def closed_descriptors():
         ("exec 0<&- 1>&- 2>&-", [], SHORT, SHORT_WORDS + DONE, "", 1),
         ("exec 0<&-", [], SHORT, SHORT_WORDS + DONE, "", 0),
     ):
-        with Line() as line:
-            program = Program("gt_serial", ["--slack", "5000", *options, line.name, *given],
-                              before=closed)
-            other = Other(line)
+        with at_line(*options, words=given, before=closed) as (_, program, other):
             play(other, "< 3B00 " + dialogue, card=True)
             output = "= 9000\n" if status == 0 else ""
             look(program, program.end(), output, fault, status)
@@ -912,8 +883,8 @@ def tests():
         for number in (signal.SIGTERM, signal.SIGINT, signal.SIGHUP, signal.SIGQUIT)
     )
     for test in (turn_time, late_echo, wrong_echo, passes_over_a_signal, line_gone,
-                 is_stopped, settings, full_device, full_device_for_an_answer,
-                 nobody_reads, closed_descriptors, words, helps):
+                 is_stopped, settings, full_device, nobody_reads, closed_descriptors, words,
+                 helps):
         yield (f"terminal: {test.__name__}", test)
     for of in ((["--patience", "2"], 2, 1), ([], 600, 300)):
         yield f"terminal: NULLs for {of[1]} s", lambda of=of: nulls_for_ever(*of)

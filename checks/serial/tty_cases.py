@@ -30,10 +30,9 @@ NONE = "the answer to reset is invalid: "
 class Tty:
     """A line whose near end is a tty by the stand-in, and the stand-in's notes."""
 
-    def __init__(self, folder, refuses=""):
-        self.line = Line()
-        self.log = Path(folder) / "log"
-        self.inputs = Path(folder) / "inputs"
+    def __init__(self, refuses=""):
+        self.line, self.folder = Line(), tempfile.TemporaryDirectory()
+        self.log, self.inputs = (Path(self.folder.name) / it for it in ("log", "inputs"))
         self.log.write_text("", encoding="utf-8")
         self.switch("")
         self.environment = {
@@ -41,6 +40,13 @@ class Tty:
             "STANDIN_INPUTS": str(self.inputs),
             "STANDIN_REFUSES": refuses,
         }
+
+    def __enter__(self):
+        return self
+
+    def __exit__(self, *_):
+        self.line.close()
+        self.folder.cleanup()
 
     def switch(self, words):
         """Sets the input lines that are on, all at once."""
@@ -96,24 +102,20 @@ class Marking(Other):
 def terminal(dialogue, noted, fault="", refuses="", options=(), output="= 9000\n", play_it=None,
              reset="rts off", inverse=False, waits=0.0, echo=True, words=SHORT, status=None):
     """A terminal at a tty. The card answers after the end of the reset."""
-    with tempfile.TemporaryDirectory() as folder:
-        tty = Tty(folder, refuses)
-        try:
-            options = [*options, *([] if echo else ["--no-echo"])]
-            words = ["--slack", "1200", *options, tty.line.name, *words]
-            program = Program("gt_serial", words, environment=tty.environment)
-            other = Marking(tty.line, echo, inverse)
-            if reset:
-                tty.await_note(reset)
-            other.sent_at = time.monotonic()
-            (play_it or (lambda it: play(it, dialogue, card=True)))(other)
-            ended = program.end()
-            look(program, ended, output, fault, bool(fault) if status is None else status)
-            assert tty.noted() == noted, f"noted {tty.noted()}, and not {noted}"
-            assert tty.line.is_put_back(), "the tty is not set as it was before"
-            must_end(program.seconds, waits, other.sent_at - program.began + waits + LATE)
-        finally:
-            tty.line.close()
+    with Tty(refuses) as tty:
+        options = [*options, *([] if echo else ["--no-echo"])]
+        words = ["--slack", "1200", *options, tty.line.name, *words]
+        program = Program("gt_serial", words, environment=tty.environment)
+        other = Marking(tty.line, echo, inverse)
+        if reset:
+            tty.await_note(reset)
+        other.sent_at = time.monotonic()
+        (play_it or (lambda it: play(it, dialogue, card=True)))(other)
+        ended = program.end()
+        look(program, ended, output, fault, bool(fault) if status is None else status)
+        assert tty.noted() == noted, f"noted {tty.noted()}, and not {noted}"
+        assert tty.line.is_put_back(), "the tty is not set as it was before"
+        must_end(program.seconds, waits, other.sent_at - program.began + waits + LATE)
 
 
 def resets():
@@ -165,25 +167,20 @@ def second_resets():
 
 
 def twice(first, second, fault):
-    with tempfile.TemporaryDirectory() as folder:
-        tty = Tty(folder)
-        try:
-            program = Program("gt_serial", ["--slack", "1200", tty.line.name, *SHORT],
-                              environment=tty.environment)
-            for times, dialogue in enumerate((first, second), 1):
-                tty.await_note("rts off", times)
-                play(Marking(tty.line), dialogue, card=True)
-            look(program, program.end(), "" if fault else "= 9000\n", fault, 1 if fault else 0)
-            noted = [EVEN, *RESET, *RESET, *([] if fault else [EVEN]), *END]
-            assert tty.noted() == noted, f"noted {tty.noted()}, and not {noted}"
-        finally:
-            tty.line.close()
+    with Tty() as tty:
+        program = Program("gt_serial", ["--slack", "1200", tty.line.name, *SHORT],
+                          environment=tty.environment)
+        for times, dialogue in enumerate((first, second), 1):
+            tty.await_note("rts off", times)
+            play(Marking(tty.line), dialogue, card=True)
+        look(program, program.end(), "" if fault else "= 9000\n", fault, 1 if fault else 0)
+        noted = [EVEN, *RESET, *RESET, *([] if fault else [EVEN]), *END]
+        assert tty.noted() == noted, f"noted {tty.noted()}, and not {noted}"
 
 
 def gone_at_reset():
     """There is no second reset after the line is gone."""
-    with tempfile.TemporaryDirectory() as folder:
-        tty = Tty(folder)
+    with Tty() as tty:
         program = Program("gt_serial", ["--slack", "5000", tty.line.name, *SHORT],
                           environment=tty.environment)
         tty.await_note("rts off")
@@ -194,19 +191,15 @@ def gone_at_reset():
 
 def is_held():
     """The card is held in reset for about 50 ms, and at least 400 cycles."""
-    with tempfile.TemporaryDirectory() as folder:
-        tty = Tty(folder)
-        try:
-            program = Program("gt_serial", ["--slack", "5000", tty.line.name, *SHORT],
-                              environment=tty.environment)
-            tty.line.write(b"\x55\x55")
-            began = tty.await_note("rts on")
-            held = tty.await_note("rts off") - began
-            play(Marking(tty.line), f"< 3B00 {SHORT_WORDS}{DONE}", card=True)
-            look(program, program.end(), "= 9000\n", "", 0)
-            assert 0.03 <= held < 3, f"held for {held:.3f} s"
-        finally:
-            tty.line.close()
+    with Tty() as tty:
+        program = Program("gt_serial", ["--slack", "5000", tty.line.name, *SHORT],
+                          environment=tty.environment)
+        tty.line.write(b"\x55\x55")
+        began = tty.await_note("rts on")
+        held = tty.await_note("rts off") - began
+        play(Marking(tty.line), f"< 3B00 {SHORT_WORDS}{DONE}", card=True)
+        look(program, program.end(), "= 9000\n", "", 0)
+        assert 0.03 <= held < 3, f"held for {held:.3f} s"
 
 
 def rates():
@@ -418,19 +411,15 @@ def without_echo():
 
 def ff_is_no_mark(refuses):
     """FF in an answer to reset, as a procedure byte, in data, and as an echo."""
-    with tempfile.TemporaryDirectory() as folder:
-        tty = Tty(folder, refuses)
-        try:
-            words = ["send", "00CA5F2002", "put", "51", "FF00FFFF"]
-            words = ["--slack", "5000", tty.line.name, *words]
-            program = Program("gt_serial", words, environment=tty.environment)
-            other = Marking(tty.line)
-            tty.await_note("rts off")
-            play(other, "< 3B41FFFF > 00CA5F2002 < CAFFFF9000 > 00DA005104 < DA > FF00FFFF < 9000",
-                 card=True)
-            look(program, program.end(), "= 9000 FFFF\n= 9000\n", "", 0)
-        finally:
-            tty.line.close()
+    with Tty(refuses) as tty:
+        words = ["send", "00CA5F2002", "put", "51", "FF00FFFF"]
+        words = ["--slack", "5000", tty.line.name, *words]
+        program = Program("gt_serial", words, environment=tty.environment)
+        other = Marking(tty.line)
+        tty.await_note("rts off")
+        play(other, "< 3B41FFFF > 00CA5F2002 < CAFFFF9000 > 00DA005104 < DA > FF00FFFF < 9000",
+             card=True)
+        look(program, program.end(), "= 9000 FFFF\n= 9000\n", "", 0)
 
 
 def is_locked():
@@ -460,51 +449,44 @@ def keeps_others_out():
     """While the program runs only root can open the tty, and a second program prints which process
     has it. Afterwards others can open it, even if a signal has ended the program. A pseudo terminal
     would stay closed after SIGKILL, so it can be opened all the time."""
-    with tempfile.TemporaryDirectory() as folder:
-        Path(folder).chmod(0o755)
-        copy = shutil.copy(BUILD / "gt_serial", folder)
+    with Tty() as tty:
+        Path(tty.folder.name).chmod(0o755)
+        copy = shutil.copy(BUILD / "gt_serial", tty.folder.name)
         user = 65534 if os.geteuid() == 0 else None
-        tty = Tty(folder)
         Path(tty.line.name).chmod(0o666)
-        try:
-            for number in (None, signal.SIGTERM, signal.SIGKILL):
-                words = ["--slack", "5000", tty.line.name, *SHORT]
-                is_pseudo = number == signal.SIGKILL
-                first = Program("gt_serial", words,
-                                environment=() if is_pseudo else tty.environment)
-                if not is_pseudo:
-                    tty.await_note("rts off")
-                play(Marking(tty.line), "< 3B00 " + SHORT_WORDS, card=True)
-                second = Program(copy, words, user=user)
-                look(second, second.end(), "", f"process {first.process.pid} has the tty\n", 1)
-                opened = subprocess.run(["sh", "-c", f": < {tty.line.name}"], user=user, cwd="/",
-                                        check=False, stderr=subprocess.DEVNULL)
-                assert (opened.returncode == 0) == is_pseudo, f"opened: {opened.returncode}"
-                if number:
-                    first.kill(number)
-                else:
-                    tty.line.write(b"\x90\x00")
-                first.end()
-                # drops an echo that the program could not read before the signal
-                termios.tcflush(tty.line.near, termios.TCIOFLUSH)
-                third = Program(copy, ["--slack", "0", *words[2:]], user=user)
-                look(third, third.end(), "", "the card does not answer to reset\n", 1)
-                tty.log.write_text("", encoding="utf-8")
-        finally:
-            tty.line.close()
+        for number in (None, signal.SIGTERM, signal.SIGKILL):
+            words = ["--slack", "5000", tty.line.name, *SHORT]
+            is_pseudo = number == signal.SIGKILL
+            first = Program("gt_serial", words,
+                            environment=() if is_pseudo else tty.environment)
+            if not is_pseudo:
+                tty.await_note("rts off")
+            play(Marking(tty.line), "< 3B00 " + SHORT_WORDS, card=True)
+            second = Program(copy, words, user=user)
+            look(second, second.end(), "", f"process {first.process.pid} has the tty\n", 1)
+            opened = subprocess.run(["sh", "-c", f": < {tty.line.name}"], user=user, cwd="/",
+                                    check=False, stderr=subprocess.DEVNULL)
+            assert (opened.returncode == 0) == is_pseudo, f"opened: {opened.returncode}"
+            if number:
+                first.kill(number)
+            else:
+                tty.line.write(b"\x90\x00")
+            first.end()
+            # drops an echo that the program could not read before the signal
+            termios.tcflush(tty.line.near, termios.TCIOFLUSH)
+            third = Program(copy, ["--slack", "0", *words[2:]], user=user)
+            look(third, third.end(), "", "the card does not answer to reset\n", 1)
+            tty.log.write_text("", encoding="utf-8")
 
 
 def card(play_it, options=(), answer="3B00", refuses="", fault=GONE, inverse=False, noted=None):
     """A card at a tty. `play_it` plays the other end, and switches the input lines."""
-    with tempfile.TemporaryDirectory() as folder:
-        tty = Tty(folder, refuses)
-        path = table(folder, f"atr {answer}\n{APP}")
+    with Tty(refuses) as tty:
+        path = table(tty.folder.name, f"atr {answer}\n{APP}")
         words = ["--slack", "5000", *options, tty.line.name, path]
-        try:
-            program = Program("serial_card", words, environment=tty.environment)
-            play_it(tty, Marking(tty.line, inverse=inverse))
-        finally:
-            tty.line.close()
+        program = Program("serial_card", words, environment=tty.environment)
+        play_it(tty, Marking(tty.line, inverse=inverse))
+        tty.line.close()
         look(program, program.end(), "", fault, 1)
         assert noted is None or tty.noted()[: len(noted)] == noted, f"noted {tty.noted()}"
 

@@ -46,6 +46,21 @@ def test_a_run_tells_where_it_continues(tmp_path):
     assert out.endswith("2 of 4 rows done, 2 to decide\n")
 
 
+@pytest.mark.parametrize("encoding", ["utf-8", "ascii"])
+def test_a_reader_with_a_name_in_another_script(tmp_path, encoding):
+    """Also if the output lacks its letters. The journal has them, and stays one."""
+    room = Room(tmp_path, 2, readers=0)
+    room.add_reader("L\u00e4ser")
+    room.is_apart, room.environment["PYTHONIOENCODING"] = True, encoding
+    shown = "L\u00e4ser" if encoding == "utf-8" else "L\\xe4ser"
+    status, out, error = room.run("--reader=ser", "--stop-after=1")
+    assert (status, error) == (0, "") and f"{shown}: row 2 done" in out
+    (tmp_path / "there").mkdir()
+    second = ("--new", "--journal=there/second", "--reader=ser")
+    assert room.run(*second) == refused(f"rows.csv has another journal, {tmp_path}/journal")
+    assert room.run("--again=1")[:2] == (1, "1 of 2 rows done, 0 to decide\n")
+
+
 def test_a_card_is_asked_for_once(tmp_path):
     """Also after one that did not answer to reset."""
     room = Room(tmp_path, 1)

@@ -59,16 +59,16 @@ def test_what_no_terminal_sees_does_not_count(tmp_path, capsys):
     assert "wrong  *" in capsys.readouterr().out
 
 
-LEAVES = "setsid sleep 30 & echo it says; exec sleep 30"
+LEAVES = "setsid sleep 30 & echo 'it says \u00fc'; exec sleep 30"
 
 
 def test_a_process_that_leaves_its_group_holds_nothing_up(tmp_path, monkeypatch):
-    """It keeps the output open."""
+    """It keeps the output open, whose bytes may be of any encoding."""
     begun, made = time.monotonic(), tmp_path / "made.json"
     words = ["--only", "select refused", "--limit", "2", "--json", str(made), "--", "sh", "-c"]
     assert main([*words, LEAVES, "{tty}"]) == 1 and time.monotonic() < begun + 25
     [found] = json.loads(made.read_text())
-    assert (found["verdict"], found["said"]) == ("hung", "it says")
+    assert (found["verdict"], found["said"]) == ("hung", "it says \\xc3\\xbc")
 
 
 def test_an_interrupt_ends_the_terminal_too(tmp_path):

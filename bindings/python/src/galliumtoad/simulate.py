@@ -75,7 +75,7 @@ class Simulator(contextlib.ExitStack):
         if self.shows:
             self.tell("reset")
 
-    @mistakes("standard output", OSError)  # which is no end of the line
+    @mistakes("standard output", OSError, ValueError)  # which is no end of the line
     def tell(self, text: str, sign: str = "") -> None:
         """Prints a line; or if the card `shows` them, bytes that the terminal (`>`) or the card
         (`<`) sent. Bytes of one end are one line, as `trace_explain` reads it."""

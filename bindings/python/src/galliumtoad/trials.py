@@ -110,13 +110,13 @@ def tried(trial: Trial, given: argparse.Namespace) -> None:
         told = {**WORDS, "reader": given.reader, "tty": ready.get(timeout=AWAIT_READER)}
         words = [re.sub(r"\{(\w+)\}", lambda it: told.get(str(it[1]), str(it[0])), word)
                  for word in given.terminal]
-        program = Popen(words, stdin=DEVNULL, stdout=PIPE, stderr=STDOUT, encoding="utf-8",
-                        errors="replace", start_new_session=True)
+        program = Popen(words, stdin=DEVNULL, stdout=PIPE, stderr=STDOUT, encoding="ascii",
+                        errors="backslashreplace", start_new_session=True)
         output, trial.status = program.communicate(timeout=given.limit)[0], program.returncode
     except Empty:
         raise OSError(f"the reader at {given.vpcd} does not see the card") from None
     except TimeoutExpired as why:  # a process may have left its group, and never end
-        output = (why.output or b"").decode("utf-8", "replace")
+        output = (why.output or b"").decode("ascii", "backslashreplace")
     finally:
         if program and program.returncode is None:
             os.killpg(program.pid, signal.SIGKILL)

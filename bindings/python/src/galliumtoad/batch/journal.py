@@ -54,8 +54,8 @@ def place_of(table: str) -> str:  # a pipe has only its name
 
 def heading_of(path: str) -> Optional[Heading]:
     """Reads a file's first line, or returns None if it is not that of a journal."""
-    with contextlib.suppress(OSError, ValueError, TypeError), open(path, encoding="ascii") as file:
-        line = file.readline(1 << 16)
+    with contextlib.suppress(OSError, ValueError, TypeError), open(path, "rb") as file:
+        line = file.readline(1 << 16).decode("ascii")  # other lines have the names of readers
         if line.startswith(_MAGIC) and line.endswith("\n"):
             found = Heading(**json.loads(line[len(_MAGIC) :]))
             range(1, found.of + 1).index(found.at)  # each field has its type and its range

@@ -131,13 +131,14 @@ def work(given: argparse.Namespace) -> int:
     print("\n".join(start_lines(journals[0])), flush=True)
     run = desk.Desk(rows, journals[0], given)
     run.run()
-    for line in run.faults:
-        print(line, file=sys.stderr)
+    print(*(f"{it}\n" for it in run.faults), sep="", end="", file=sys.stderr)
     return finished(journals, given.report) or int(bool(run.faults))
 
 
 def main(words: Optional[list[str]] = None) -> int:
     """Runs the program. Returns its exit status."""
+    # a reader's name may have characters that the output lacks
+    getattr(sys.stdout, "reconfigure", dict)(errors="backslashreplace")
     given = parsed(words)
     try:
         return work(given)
@@ -149,6 +150,5 @@ def main(words: Optional[list[str]] = None) -> int:
         lines = (str(error) or "interrupted").split("\n")
     if len(lines) > _SHOWN:
         lines[_SHOWN:] = [f"and {len(lines) - _SHOWN} more mistakes"]
-    for line in lines:
-        print(f"galliumtoad.batch: {line}", file=sys.stderr)
+    print(*(f"galliumtoad.batch: {line}" for line in lines), sep="\n", file=sys.stderr)
     return 2

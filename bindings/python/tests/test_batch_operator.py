@@ -61,6 +61,16 @@ def test_a_reader_with_a_name_in_another_script(tmp_path, encoding):
     assert room.run("--again=1")[:2] == (1, "1 of 2 rows done, 0 to decide\n")
 
 
+def test_a_column_s_name_in_another_encoding(tmp_path):
+    """A reason may have it, and so does the journal."""
+    room = Room(tmp_path, 1)
+    (tmp_path / "script").write_bytes(b"select A0000000031010\nput {\xe9} @{name}\n")
+    (tmp_path / "rows.csv").write_bytes(b"name,\xe9\nPERSON 1,50\n")
+    room.environment["WORN"] = "yes"
+    assert "put {\\udce9} was answered 9000, and read back" in room.run("--stop-after=1")[1]
+    assert room.to_decide() == {1: "failed"}
+
+
 def test_a_card_is_asked_for_once(tmp_path):
     """Also after one that did not answer to reset."""
     room = Room(tmp_path, 1)

@@ -141,3 +141,6 @@ def test_other_words(capsys):
         assert main(["--list"]) == 2 and "No space left" in capsys.readouterr().err
     assert main(["--vpcd", "localhost:1", "--", "{reader}"]) == 2
     assert main(["--only", "late", "--", "/none/at/all", "{tty}"]) == 2
+    for only, place in (("lat e", "{tty}"), ("byte lost", "{reader}")):  # a typo is no success
+        assert main(["--only", only, "--", "true", place]) == 2
+        assert f"no trial that can happen there has '{only}' in" in capsys.readouterr().err

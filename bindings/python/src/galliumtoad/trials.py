@@ -172,16 +172,16 @@ def main(words: Optional[list[str]] = None) -> int:
         if given.list:
             print("\n\n".join(f"{it.name}: {it.faults}\n{it.says}" for it in trials()))
             return 0
-        results = possible(given)
-        width = max((len(it.name) for it in results), default=0)
+        if not (results := possible(given)):
+            raise Mistake(f"no trial that can happen there has {given.only!r} in its name")
+        width = max(len(it.name) for it in results)
         for it in results:
             tried(it, given)
             print(f"{it.name:{width}}  {it.verdict:7}{'*' * it.is_unseen:1} {it.said}".rstrip(),
                   flush=True)
         counted = [it.verdict for it in results if not it.is_unseen]
-        print(", ".join(f"{counted.count(it)} {it}" for it in VERDICTS if it in counted))
-        if len(counted) < len(results):
-            print(STAR)
+        counts = ", ".join(f"{counted.count(it)} {it}" for it in VERDICTS if it in counted)
+        print(counts, *[STAR] * (len(counted) < len(results)), sep="\n")
         if given.json:
             Path(given.json).write_text(json.dumps([asdict(it) for it in results], indent=1) + "\n")
         if given.html:

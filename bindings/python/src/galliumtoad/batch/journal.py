@@ -94,15 +94,15 @@ def create(path: str, heading: Heading, only_looks: bool = False) -> None:
             with contextlib.suppress(PermissionError):  # on a disk without links
                 os.symlink(place, link)
         named = replace(heading, table=os.path.relpath(table, folder))
-        _write(file.fileno(), f"{_MAGIC}{json.dumps(asdict(named))}\n", 0)
+        _write(file.fileno(), f"{_MAGIC}{json.dumps(asdict(named))}\n".encode(), 0)
     opened = os.open(folder, os.O_RDONLY)
     os.fsync(opened)
     os.close(opened)
 
 
-def _write(file: int, line: str, place: int) -> None:
+def _write(file: int, line: bytes, place: int) -> None:
     os.ftruncate(file, place)
-    if os.pwrite(file, line.encode(), place) < len(line.encode()):
+    if os.pwrite(file, line, place) < len(line):
         raise OSError("no space is left for the journal")
     os.fsync(file)
 
@@ -223,7 +223,7 @@ class Journal:
     def _append(self, row: int, word: str, note: str) -> None:
         time = datetime.now().astimezone().isoformat(timespec="milliseconds")
         line = f"{word} {row} {time} {' '.join(note.split())}".rstrip()
-        _write(self._file, f"{line}\n", self._read)
+        _write(self._file, f"{line}\n".encode(errors="backslashreplace"), self._read)
         self._catch_up()
         if word not in ("begin", "card"):
             self.release(row)

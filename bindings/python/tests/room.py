@@ -39,6 +39,14 @@ def ended(run, seconds=100):
         raise
 
 
+def interruptible(room, *words, handler=signal.default_int_handler):
+    """Starts a run, which inherits whether SIGINT is ignored, as a script's background job does."""
+    before = signal.signal(signal.SIGINT, handler)
+    run = room.start(*words)
+    signal.signal(signal.SIGINT, before)
+    return run
+
+
 def folder_of_programs():
     """A program that was just built comes before that of the repository."""
     built = os.environ.get("GALLIUMTOAD_BUILT", "")

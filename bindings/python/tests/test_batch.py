@@ -15,7 +15,8 @@ import time
 import pytest
 from galliumtoad import Card, Select, Terminal
 from galliumtoad.batch.script import Recorder, Script, carry_out, check_of
-from room import AID, FULL, HERE, SCRIPT, STANDIN, Room, ended, listed, refused, steps_of, told
+from room import (AID, FULL, HERE, SCRIPT, STANDIN, Room, ended, interruptible, listed, refused,
+                  steps_of, told)
 
 sys.path.append(str(HERE.parents[2] / "checks/program"))
 import operations  # noqa: E402
@@ -576,19 +577,11 @@ def test_cards_get_what_was_checked(tmp_path):
     assert sorted(it["24352"] for it in room.held().values()) == ["01", "02"]
 
 
-def interruptible(room, handler=signal.default_int_handler):
-    """Starts a run, which inherits whether SIGINT is ignored, as a script's background job does."""
-    before = signal.signal(signal.SIGINT, handler)
-    run = room.start()
-    signal.signal(signal.SIGINT, before)
-    return run
-
-
 @pytest.mark.parametrize("handler", [signal.default_int_handler, signal.SIG_IGN])
 def test_an_interrupted_run_ends_the_card_in_progress(tmp_path, handler):
     room = Room(tmp_path, 3)
     room.environment["SLOW"] = "0.1"
-    run = interruptible(room, handler)
+    run = interruptible(room, handler=handler)
     begun(room)
     os.kill(run.pid, signal.SIGINT)
     out, error = ended(run)

@@ -101,7 +101,7 @@ def test_a_journal_keeps_its_identifier(tmp_path):
     assert room.run("--id=9F7F", "--stop-after=1")[0] == 1
     room.put_in(room.names[0], 7)
     assert f"card {room.id_of(7)} has row 1, which is unsure" in room.run()[1]
-    assert room.run("--id=50") == refused("journal was created with --id 9F7F")
+    assert room.run("--id=51") == refused("journal was created with --id 9F7F")
 
 
 def test_a_card_that_lies_in_the_reader_waits(tmp_path):

@@ -121,7 +121,9 @@ MISTAKES = [
      "row 1 has not begun"),
     ("another part", None, None, "--journal=made --part=2/5 --reader=Slot0",
      "made is the journal of part 1/1"),
-    ("another identifier", None, None, "--journal=made --id=50 --reader=Slot0",
+    ("an identifier that the script stores", "get 50\nput 9F7F {code}\n", None,
+     "--id=9F7F --reader=Slot0", "script stores 9F7F, so that can't tell cards apart"),
+    ("another identifier", None, None, "--journal=made --id=51 --reader=Slot0",
      "made was created without --id"),
 ]  # fmt: skip
 

@@ -18,8 +18,8 @@ from galliumtoad import Card
 from galliumtoad.batch import report
 from galliumtoad.batch.journal import Entry
 from galliumtoad.batch.script import Recorder, Script, carry_out, compared, identity
-from room import (AID, SCRIPT, Room, ended, folder_of_programs, listed, refused, steps_of,
-                  told)
+from room import (AID, SCRIPT, Room, ended, folder_of_programs, interruptible, listed, refused,
+                  steps_of, told)
 
 TIME = r"\d{4}-\d\d-\d\dT\d\d:\d\d:\d\d\.\d{3}[+-]\d\d:\d\d"
 
@@ -215,7 +215,7 @@ def test_an_interrupt_before_a_card_is_told_in_a_line(tmp_path):
     room.environment["LIES"] = "yes"
     assert room.run("--stop-after=1")[0] == 0
     (tmp_path / room.names[0] / "out").touch()
-    run = room.start("--look=1", *room.readers)
+    run = interruptible(room, "--look=1", *room.readers)
     assert run.stdout.readline() == f"{room.names[0]}: insert the card of row 1\n"
     run.send_signal(signal.SIGINT)
     assert ended(run)[1] == "galliumtoad.batch: interrupted\n" and run.returncode == 2

@@ -12,8 +12,7 @@ from .script import Rows, check_of, steps_of, tag
 
 _ABOUT = "Personalises cards by the hundred: each card that is inserted gets one row of a table."
 _HELP = """In a script `@{column}` is a column's text, `{column}` its digits: put 5F20 @{name}. The
-first of these is done, and no other: --status, --done and --again; --check; --look; a run.
---check and --look write no report. --journal, --reader, --done and --again may be repeated."""
+first of these is done, and no other: --status, --done and --again; --check; --look; a run."""
 _SHOWN = 20  # mistakes
 
 
@@ -31,8 +30,7 @@ def parsed(words: Optional[list[str]]) -> argparse.Namespace:
     add = parser.add_argument
     add("script", help="operations as gt_pcsc takes them, one a line")
     add("--rows", required=True, help="the table; its first line names the columns")
-    add("--journal", action="append", required=True,
-        help="the file that says what became of begun rows; with --status alone several")
+    add("--journal", action="append", required=True, help="begun rows; several with --status")
     add("--new", action="store_true", help="create the journal; refuse an old one; not by --check")
     add("--id", type=tag, help="with --new: the tag of an object that tells cards apart: use it")
     add("--reader", action="append", default=[], help="part of one name; once for each of several")
@@ -86,6 +84,9 @@ def start_lines(journal: Journal) -> Iterator[str]:
 
 def opened(given: argparse.Namespace, rows: Rows) -> list[Journal]:
     """Creates a new journal, and opens all. Raises `ValueError` for one that does not fit."""
+    puts = {getattr(it.operation, "tag", 0) for row in rows for it in row if it.shown[:3] == "put"}
+    if given.id in puts:
+        raise ValueError(f"{given.script} stores {given.id:X}, so that can't tell cards apart")
     if given.new:
         [path], (at, of) = given.journal, given.part or (1, 1)
         refuse_a_second(path, given.rows, at, of)
@@ -137,8 +138,7 @@ def work(given: argparse.Namespace) -> int:
 
 def main(words: Optional[list[str]] = None) -> int:
     """Runs the program. Returns its exit status."""
-    # a reader's name may have characters that the output lacks
-    getattr(sys.stdout, "reconfigure", dict)(errors="backslashreplace")
+    getattr(sys.stdout, "reconfigure", dict)(errors="backslashreplace")  # for names of readers
     given = parsed(words)
     try:
         return work(given)

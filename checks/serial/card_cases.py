@@ -217,11 +217,24 @@ def puts_back():
 
 
 class Far:
-    """A card that creates its own line. A terminal opens the near end."""
+    """A card that creates its own line, with a table of this text if it has one. A terminal opens
+    the near end. At the end of `with` it must end with this output and these faults."""
 
-    def __init__(self, *words):
-        self.program = Program("serial_card", ["--pty", *words])
+    def __init__(self, *words, text="", output="", fault=""):
+        self.folder, self.ends = tempfile.TemporaryDirectory(), (output, fault)
+        path = table(self.folder.name, text) if text else TABLE
+        self.program = Program("serial_card", ["--pty", *words, path])
         self.name = self.program.first_line()
+
+    def __enter__(self):
+        return self
+
+    def __exit__(self, kind, *_):
+        self.program.kill(signal.SIGTERM)
+        status = self.program.end()
+        self.folder.cleanup()
+        if not kind:
+            look(self.program, status, *self.ends, -signal.SIGTERM)
 
     def opened(self):
         """Opens the near end for these tests. The caller closes it."""
@@ -235,86 +248,71 @@ class Far:
         play(other, dialogue, card=False)
         near.close()
 
-    def end(self, output="", fault=""):
-        self.program.kill(signal.SIGTERM)
-        look(self.program, self.program.end(), output, fault, -signal.SIGTERM)
-
 
 def opening_is_the_reset():
     """Each opening of a card's own line is a reset. The card sends its answer, has nothing
     selected, and drops the dialogue in progress, with all bytes on the line."""
-    far = Far("--no-echo", TABLE)
-    for dialogue in (
-        "< 3B00 " + SELECT_WORDS + "> 00DA5F2003 < DA > 41",
-        "< 3B00 " + ASK_WORDS + SELECT_WORDS + "> 00CA5F2006 < CA5F20034A4F459000",
-        "< 3B00 " + SELECT_WORDS + PUT_WORDS + "> 00CA5F2006",
-        "",
-        "< 3B00 " + ASK_WORDS + SELECT_WORDS + "> 00CA5F2006 < CA5F2003414E4E9000",
-    ):
-        far.plays(dialogue)
-        time.sleep(0.3)
-    far.end()
+    with Far("--no-echo") as far:
+        for dialogue in (
+            "< 3B00 " + SELECT_WORDS + "> 00DA5F2003 < DA > 41",
+            "< 3B00 " + ASK_WORDS + SELECT_WORDS + "> 00CA5F2006 < CA5F20034A4F459000",
+            "< 3B00 " + SELECT_WORDS + PUT_WORDS + "> 00CA5F2006",
+            "",
+            "< 3B00 " + ASK_WORDS + SELECT_WORDS + "> 00CA5F2006 < CA5F2003414E4E9000",
+        ):
+            far.plays(dialogue)
+            time.sleep(0.3)
 
 
 def quick_reopening():
     """A terminal that closes the line and opens it again at once finds the card reset, even inside
     a TPDU."""
-    far = Far("--no-echo", TABLE)
-    near, other = far.opened()
-    for number in range(30):
-        play(other, "< 3B00 " + ASK_WORDS + SELECT_WORDS, card=False)
-        if number % 3 == 0:
-            play(other, "> 00CA5F20", card=False)
-        near.close()
-        near, other = far.opened()
-    play(other, "< 3B00", card=False)
-    near.close()
-    far.end()
+    with Far("--no-echo") as far:
+        for number in range(30):
+            part = "> 00CA5F20" if number % 3 == 0 else ""
+            far.plays("< 3B00 " + ASK_WORDS + SELECT_WORDS + part)
+        far.plays("< 3B00")
 
 
 def mute_and_reopened():
     """The same holds for a card that has not answered a PPS request."""
-    far = Far("--no-echo", TABLE)
-    for _ in range(5):
-        near, other = far.opened()
-        play(other, "< 3B00 > FF11FE00", card=False)
-        assert far.program.first_fault(15) == NO_PPS
-        near.close()
-    far.plays("< 3B00 " + ASK_WORDS)
-    far.end()
+    with Far("--no-echo") as far:
+        for _ in range(5):
+            near, other = far.opened()
+            play(other, "< 3B00 > FF11FE00", card=False)
+            assert far.program.first_fault(15) == NO_PPS
+            near.close()
+        far.plays("< 3B00 " + ASK_WORDS)
 
 
 def gives_the_echo():
     """A card's own line returns the terminal's echo before the card's characters."""
-    far = Far(TABLE)
-    far.plays("< 3B00 > 00 < 00 > CA < CA > 5F < 5F > 20 < 20 > 00 < 006985")
-    far.end()
+    with Far() as far:
+        far.plays("< 3B00 > 00 < 00 > CA < CA > 5F < 5F > 20 < 20 > 00 < 006985")
 
 
 def is_not_read():
     """A terminal that reads nothing does not stop the card, which waits for the next terminal."""
-    far = Far("--no-echo", "--baud", "1000000", "--plan", "n" * 100000, TABLE)
-    near, other = far.opened()
-    play(other, "< 3B00 > 00CA5F2000", card=False)
-    told = far.program.first_fault(15)
-    near.close()
-    time.sleep(0.3)
-    far.plays("< 3B00 " + ASK_WORDS)
-    far.end()
+    with Far("--no-echo", "--baud", "1000000", "--plan", "n" * 100000) as far:
+        near, other = far.opened()
+        play(other, "< 3B00 > 00CA5F2000", card=False)
+        told = far.program.first_fault(15)
+        near.close()
+        time.sleep(0.3)
+        far.plays("< 3B00 " + ASK_WORDS)
     assert told == "the tty takes no more characters\n", f"it tells {told!r}"
 
 
 def mute_until_reset():
     """A card that does not answer a PPS request is mute until the next reset, and prints why."""
-    far = Far("--no-echo", TABLE)
-    near, other = far.opened()
-    play(other, "< 3B00 > FF11FE00", card=False)
-    other.send("00CA5F2000")
-    other.take_nothing(0.3)
-    near.close()
-    time.sleep(0.3)
-    far.plays("< 3B00 " + ASK_WORDS)
-    far.end(fault=NO_PPS)
+    with Far("--no-echo", fault=NO_PPS) as far:
+        near, other = far.opened()
+        play(other, "< 3B00 > FF11FE00", card=False)
+        other.send("00CA5F2000")
+        other.take_nothing(0.3)
+        near.close()
+        time.sleep(0.3)
+        far.plays("< 3B00 " + ASK_WORDS)
 
 
 def tables():

@@ -11,7 +11,7 @@ import time
 
 from card_cases import APP, GONE, Far, table
 from lines import Line, Wire, trace_of
-from programs import SECONDS, TABLE, TOP, Program, in_time
+from programs import SECONDS, TOP, Program, in_time
 from terminal_cases import GET_WORDS, SELECT_WORDS, look, rate_of
 
 EXPLAIN = subprocess.check_output([TOP / "checks/built", "trace_explain"], text=True).strip()
@@ -87,26 +87,18 @@ def own_line(inverse, echo):
     cut = trace.index("> 00CA5F2000")
     wanted = trace[:cut] + answers[0] + trace[cut:] + answers[1]
     no_echo = [] if echo else ["--no-echo"]
-    with tempfile.TemporaryDirectory() as folder:
-        path = table(folder, f"atr {whole[2:6]}\n{APP}")
-        far = Far("-v", *no_echo, path)
+    with Far("-v", *no_echo, text=f"atr {whole[2:6]}\n{APP}", output=2 * trace) as far:
         for _ in range(2):
-            terminal = Program(
-                "gt_serial", [*SLACK, *no_echo, "-v", far.name, *WORDS[:4]]
-            )
+            terminal = Program("gt_serial", [*SLACK, *no_echo, "-v", far.name, *WORDS[:4]])
             look(terminal, terminal.end(), wanted, "", 0)
             time.sleep(0.3)
-        far.end(2 * trace)
 
 
 def is_explained():
     """trace_explain explains a terminal's trace with PPS, and finds no protocol error."""
-    with tempfile.TemporaryDirectory() as folder:
-        far = Far(table(folder, f"atr 3B1095\n{APP}"))
-        words = [*SLACK, "-v", "--pps", far.name, *WORDS[:4]]
-        terminal = Program("gt_serial", words)
+    with Far(text=f"atr 3B1095\n{APP}") as far:
+        terminal = Program("gt_serial", [*SLACK, "-v", "--pps", far.name, *WORDS[:4]])
         assert terminal.end() == 0 and not terminal.faults, terminal.faults
-        far.end()
     found = subprocess.run(
         [EXPLAIN], input=terminal.output.encode(), capture_output=True, check=False
     )
@@ -122,29 +114,27 @@ def is_explained():
 
 def comes_back():
     """A terminal that is killed inside a long put, and started again, finds the old value."""
-    far = Far("--no-echo", TABLE)
-    words = [*SLACK, "--no-echo", far.name, "select", "A0000000031010"]
-    for number in (signal.SIGKILL, signal.SIGTERM):
-        killed = Program("gt_serial", [*words, "put", "5F20", "41*8000"])
-        selected = killed.first_line()  # then the put begins
-        time.sleep(0.3)
-        killed.kill(number)
-        look(killed, killed.end(), "", "", -number)
-        assert selected == "= 9000 6F098407A0000000031010", selected
-        time.sleep(0.2)
-        back = Program("gt_serial", [*words, "get", "5F20", "get", "50"])
-        look(back, back.end(), "= 9000 6F098407A0000000031010\n= 9000 5F20034A4F45\n"
-             "= 9000 500456495341\n", "", 0)
-        time.sleep(0.3)
-    far.end()
+    with Far("--no-echo") as far:
+        words = [*SLACK, "--no-echo", far.name, "select", "A0000000031010"]
+        for number in (signal.SIGKILL, signal.SIGTERM):
+            killed = Program("gt_serial", [*words, "put", "5F20", "41*8000"])
+            selected = killed.first_line()  # then the put begins
+            time.sleep(0.3)
+            killed.kill(number)
+            look(killed, killed.end(), "", "", -number)
+            assert selected == "= 9000 6F098407A0000000031010", selected
+            time.sleep(0.2)
+            back = Program("gt_serial", [*words, "get", "5F20", "get", "50"])
+            look(back, back.end(), "= 9000 6F098407A0000000031010\n= 9000 5F20034A4F45\n"
+                 "= 9000 500456495341\n", "", 0)
+            time.sleep(0.3)
 
 
 def comes_back_soon():
     """A terminal that is killed while the card sends, and started again before that ends, gets an
     answer to reset, and no byte from before."""
-    with tempfile.TemporaryDirectory() as folder:
-        path = table(folder, f"{APP}object 50 {'41' * 8000}\n")
-        far = Far("--no-echo", "--plan", "", "--plan", "", "--plan", "n" * 5000, path)
+    plans = ["--plan", "", "--plan", "", "--plan", "n" * 5000]
+    with Far("--no-echo", *plans, text=f"{APP}object 50 {'41' * 8000}\n") as far:
         words = [*SLACK, "--no-echo", far.name, "select", "A0000000031010", "get"]
         for long in ("5F20", "50"):
             killed = Program("gt_serial", [*words, long])
@@ -156,7 +146,6 @@ def comes_back_soon():
             back = Program("gt_serial", [*words, "5F20"])
             look(back, back.end(), "= 9000 6F098407A0000000031010\n= 9000 5F20034A4F45\n", "", 0)
             time.sleep(0.3)
-        far.end()
 
 
 def await_opened(process, name):
@@ -173,14 +162,13 @@ def await_opened(process, name):
 def second_is_harmless():
     """A second terminal at a card's line prints which process has it, and does not reset the
     card."""
-    far = Far("--no-echo", "--plan", "n" * 3000, TABLE)
-    words = [*SLACK, "--no-echo", far.name, "select", "A0000000031010"]
-    first = Program("gt_serial", words)
-    await_opened(first.process.pid, far.name)
-    second = Program("gt_serial", words)
-    look(second, second.end(), "", f"process {first.process.pid} has the tty\n", 1)
-    look(first, first.end(), "= 9000 6F098407A0000000031010\n", "", 0)
-    far.end()
+    with Far("--no-echo", "--plan", "n" * 3000) as far:
+        words = [*SLACK, "--no-echo", far.name, "select", "A0000000031010"]
+        first = Program("gt_serial", words)
+        await_opened(first.process.pid, far.name)
+        second = Program("gt_serial", words)
+        look(second, second.end(), "", f"process {first.process.pid} has the tty\n", 1)
+        look(first, first.end(), "= 9000 6F098407A0000000031010\n", "", 0)
 
 
 def is_in_time(echo):
@@ -188,27 +176,24 @@ def is_in_time(echo):
     0.3 s together. On a tty a block of 258 characters takes 0.32 s, and here no time."""
     value = "41" * 600
     no_echo = [] if echo else ["--no-echo"]
-    with tempfile.TemporaryDirectory() as folder:
-        far = Far(*no_echo, table(folder, f"atr 3B808131FE03CD\n{APP}object DF01 {value}\n"))
+    text = f"atr 3B808131FE03CD\n{APP}object DF01 {value}\n"
+    with Far(*no_echo, text=text) as far:
         words = [*no_echo, far.name, "select", "A0000000031010", "get", "DF01"]
         terminal = Program("gt_serial", words)
         look(terminal, terminal.end(), f"{ANSWERS[:30]}= 9000 DF01820258{value}\n", "", 0)
-        far.end()
 
 
 def keeps_values():
     """A terminal finds what another one has stored before, over the line that a card creates."""
-    far = Far(TABLE)
-    select = ["select", "A0000000031010"]
-    answer = "= 9000 6F098407A0000000031010\n"
-    for words, output in (
-        (["put", "5F20", "FF60FF"], "= 9000\n"),
-        (["get", "5F20"], "= 9000 5F2003FF60FF\n"),
-    ):
-        terminal = Program("gt_serial", [*SLACK, far.name, *select, *words])
-        look(terminal, terminal.end(), answer + output, "", 0)
-        time.sleep(0.3)
-    far.end()
+    select, answer = ["select", "A0000000031010"], "= 9000 6F098407A0000000031010\n"
+    with Far() as far:
+        for words, output in (
+            (["put", "5F20", "FF60FF"], "= 9000\n"),
+            (["get", "5F20"], "= 9000 5F2003FF60FF\n"),
+        ):
+            terminal = Program("gt_serial", [*SLACK, far.name, *select, *words])
+            look(terminal, terminal.end(), answer + output, "", 0)
+            time.sleep(0.3)
 
 
 def tests():

@@ -320,9 +320,7 @@ def never_stops():
 
 def each_opening():
     """Each opening of a card's own line is a reset: the card talks T=0, or T=1 after PPS, again."""
-    with tempfile.TemporaryDirectory() as folder:
-        path = card_cases.table(folder, f"atr {BY_PPS}\n{card_cases.APP}")
-        far = card_cases.Far("--no-echo", path)
+    with card_cases.Far("--no-echo", text=f"atr {BY_PPS}\n{card_cases.APP}") as far:
         for dialogue in (
             f"> FF01FE < FF01FE {OPEN}{SELECTS}" + talk(">", f"60:{GET_APDU[:6]}", "<", "80"),
             card_cases.ASK_WORDS,
@@ -330,7 +328,6 @@ def each_opening():
         ):
             far.plays(f"< {BY_PPS} {dialogue}")
             time.sleep(0.3)
-        far.end()
 
 
 # IFSC 254, and the times of QUICK.

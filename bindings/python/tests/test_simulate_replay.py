@@ -193,6 +193,14 @@ def test_a_capture_that_can_not_be_replayed(replay, objects, why):
         replay(*objects)
 
 
+def test_lines_that_an_editor_of_another_system_wrote(replay, tmp_path):
+    """With a byte order mark, and CR before LF."""
+    replay(ATR, *COUNTER)
+    text = (tmp_path / "capture").read_bytes().replace(b"\n", b"\r\n")
+    (tmp_path / "capture").write_bytes(b"\xEF\xBB\xBF" + text)
+    assert asked(Replay(str(tmp_path / "capture")), "8010000001") == ["019000"]
+
+
 NO_TPDUS = {"type": "command", "line": 2}
 
 

@@ -154,7 +154,7 @@ class Program(Application):
 def explained(path: str) -> list[Object]:
     """The objects for a capture, or those in a file. Raises `Mistake`."""
     with mistakes(path):
-        text = Path(path).read_bytes()
+        text = Path(path).read_bytes().removeprefix(b"\xEF\xBB\xBF")
         if not text.startswith(b'{"type":'):
             if not (name := shutil.which("trace_explain")):
                 raise ValueError("trace_explain, which reads captures, is not on the PATH. It is in"

@@ -284,7 +284,8 @@ def test_a_table(tmp_path):
 
 
 def test_an_object_that_is_there_is_replaced_and_unlocked(tmp_path):
-    (tmp_path / "table").write_text(f"app {AID}\nlocked 5F20 41\r\nlocked 50 42\n \nobject 5F20 -")
+    lines = f"#\xe9\napp {AID}\nlocked 5F20 41\r\nlocked 50 42\n \nobject 5F20 -"
+    (tmp_path / "table").write_text(lines, "latin-1")
     card, _ = read_table(str(tmp_path / "table"))
     found = [(it.tag, it.value, it.is_locked) for it in card.entries(bytes.fromhex(AID))]
     assert found == [(0x5F20, b"", False), (0x50, b"B", True)]

@@ -34,7 +34,7 @@ def read_table(path: str) -> tuple[Card, bytes]:
     tables, locked = dict[bytes, dict[int, bytes]](), set[tuple[bytes, int]]()
     atr, where = b"", path
     try:
-        for line, text in enumerate(Path(path).read_bytes().decode().split("\n"), 1):
+        for line, text in enumerate(Path(path).read_bytes().decode("latin-1").split("\n"), 1):
             where = f"{path}: line {line}"
             words = [it for it in text.removesuffix("\r").split(" ") if it]
             if not words or text[0] == "#":

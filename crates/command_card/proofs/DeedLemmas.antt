@@ -1,4 +1,4 @@
--- The deeds of an application, by what happened on the line.
+-- What an application has been through, by what happened on the line.
 use Rattle.std.proofs.Common.{◌≡◌, ◌∙◌, ℕ, ◌<◌, ◌≤◌, List, [], ◌∷◌, length, drop, Option, Some, None, Bool, true, false, ◌⊎◌, inl, inr, refl, sym, ap, subst, arith, eq-eqb}
 use Rattle.std.specs.Prelude.{if◌then◌else◌, ◌==◌, ◌&&◌, nat_lt}
 use Rattle.std.proofs.lemmas.Bool.{and_from, eqb-true, ltb-true, ltb-false, true≢false}
@@ -12,12 +12,13 @@ use Rattle.t0_core.specs.CardSide.{Stage}
 use Rattle.t0_core.specs.Front.{front_characters}
 use Rattle.t0_core.specs.History.{Event, Item, Whole, Cut_off, RunsOver}
 use Rattle.t0_core.specs.Meaning.{Prepared, Tpdu, tpdu_of}
+use Rattle.t0_core.specs.Plan.{IsCut}
 use Rattle.command_card.specs.Carrying.{Did, Makes, asking, taking}
 use Rattle.command_card.specs.State.{CardState, For_fetch, For_repeat, Hand, Left, Nothing_left, Outcome, announcing, fetch_left, handed, is_fetch, pending_for, refusing, same_header}
 use Rattle.command_card.specs.Meaning.{Answers, Does, DoesBy, kind_of}
 use Rattle.command_card.proofs.HandLemmas.{handed_enough, handed_fewer}
 use Rattle.command_card.specs.View.{after_reset}
-use Rattle.command_card.specs.Deeds.{AreDeeds, Deed, Dropped, GoesBy, IsCarriedBy, IsDeedOf, IsThrough, IsWithout, Made, Repeats, Resets, StepsBy}
+use Rattle.command_card.specs.Deeds.{GoesThrough, IsCarriedOut, IsThrough, IsWithout, Repeats, StepsBy}
 
 -- the TPDU before got no 6CXX, unless it was a GET RESPONSE
 abbrev NotSaid : Option Tpdu → Type 0
@@ -111,35 +112,29 @@ some_bytes a b e = let same : a ≡ b = cc in ap (λ (h : Hand). h.bytes) same
 some_status : (a b : Hand) → Some a ≡ Some b → a.status ≡ b.status
 some_status a b e = let same : a ≡ b = cc in ap (λ (h : Hand). h.status) same
 
+-- a header of the application's own is a command
+is_command : (before : Option Tpdu) (t : Tpdu) → ins_is_valid t.header.ins ≡ true
+    → is_fetch t.header ≡ false → (Repeats before t → ⊥) → IsWithout before t → ⊥
+is_command before t valid fetch once (inl invalid) = absurd (true≢false (sym valid ∙ invalid))
+is_command before t valid fetch once (inr (inl fetches)) =
+    absurd (true≢false (sym fetches ∙ fetch))
+is_command before t valid fetch once (inr (inr repeats)) = once repeats
+
 module _ {S : Type 0} (takes : S → Header → Bool) (Act : S → Did → S → Type 0) (reset : S → S) where
   -- what one TPDU does, by what the line tells
   record Tells (old : CardState S) (before : Option Tpdu) (t : Tpdu) (new : CardState S) : Type 0
     where
-      deed : ((new.app ≡ old.app) × IsWithout before t)
-          ⊎ ((deed : Deed) × IsDeedOf before t deed × StepsBy Act reset old.app deed new.app)
+      steps : StepsBy takes Act before old.app t new.app
       said : IsSaid new.left (Some t)
 
   refused_tells : (old new : CardState S) (before : Option Tpdu) (t : Tpdu) (status : StatusWord)
       → corrects status ≡ None → Answers old t new (refusing status) → IsWithout before t
       → Tells old before t new
   refused_tells old new before t status own is without = record {
-    deed = inl (is.same, without);
+    steps = inl (without, is.same);
     said = subst (λ l. IsSaid l (Some t)) (sym is.brings.left_is)
         (λ other. subst (λ (s : StatusWord). corrects s ≡ None) (sym is.brings.status_is) own);
   }
-
-  made_tells : (old new : CardState S) (before : Option Tpdu) (t : Tpdu) (c : Command)
-      (response : List ℕ) (status : StatusWord) → IsCarriedBy before t c
-      → Makes Act old.app c response status new.app → (response ≡ [] → t.status ≡ status)
-      → ((new.app ≡ old.app) × IsWithout before t)
-      ⊎ ((deed : Deed) × IsDeedOf before t deed × StepsBy Act reset old.app deed new.app)
-  made_tells old new before t c response status carried (inl made) bare = inr (
-    Made (record { command = c; response = response; status = status }),
-    carried,
-    (made.0, made.2),
-  )
-  made_tells old new before t c response status carried (inr (same, none, gives, long)) bare =
-      inr (Dropped c, (carried, bare none ∙ gives), (long, same))
 
   -- a pending response that is handed over
   hand_tells : (left : Left) (old new : CardState S) (before : Option Tpdu) (cut : ℕ) (t : Tpdu)
@@ -159,7 +154,7 @@ module _ {S : Type 0} (takes : S → Header → Bool) (Act : S → Did → S →
           subst (λ (s : StatusWord). corrects s ≡ None)
           (some_status (record { bytes = bytes; status = status }) hand this) said.1 in
           record {
-            deed = inl (is.same, inr (inl e));
+            steps = inl (inr (inl e), is.same);
             said = subst (λ l. IsSaid l (Some t)) (sym is.brings.left_is)
                 (handed_said (For_fetch bytes status) hand.bytes hand.status (count t.p3) cut t own
                 is.brings.status_is (λ some few six. (
@@ -193,7 +188,7 @@ module _ {S : Type 0} (takes : S → Header → Bool) (Act : S → Did → S →
           subst (λ b. Repeats b t) (sym before_is)
           (u_header ∙ same, u_told ∙ ap (λ n. Some n) long) in
           record {
-            deed = inl (is.same, inr (inr repeats));
+            steps = inl (inr (inr repeats), is.same);
             said = subst (λ l. IsSaid l (Some t)) (sym is.brings.left_is)
                 (handed_said (For_repeat g bytes status) hand.bytes hand.status (count t.p3) cut t
                 own is.brings.status_is
@@ -211,9 +206,9 @@ module _ {S : Type 0} (takes : S → Header → Bool) (Act : S → Did → S →
           let no : None ≡ Some hand =
           subst (λ (v : Bool). (if v then it else None) ≡ Some hand) e pending in absurd (cc)
 
-  tells : (old new : CardState S) (before : Option Tpdu) (cut : ℕ) (t : Tpdu)
+  tells : (old new : CardState S) (before : Option Tpdu) (cut : ℕ) (t : Tpdu) → IsCut cut
       → IsSaid old.left before → Does takes Act old cut t new → Tells old before t new
-  tells old new before cut t said does =
+  tells old new before cut t is_cut said does =
       by (ins_is_valid t.header.ins) (pending_for old.left t.header t.p3) (is_fetch t.header)
       (takes old.app t.header) refl refl refl refl does
     where
@@ -228,16 +223,19 @@ module _ {S : Type 0} (takes : S → Header → Bool) (Act : S → Did → S →
       by true None true k valid pending fetch takes_is is =
           refused_tells old new before t (0x69, 0x85) refl is (inr (inl fetch))
       by true None false true valid pending fetch takes_is is = record {
-        deed = made_tells old new before t (taking t.header t.sent) is.response is.status
-            (record {
-              valid = valid;
-              no_fetch = fetch;
-              no_repeat = never_repeats old.left before t said pending fetch;
-              header_is = refl;
-              content_is = refl;
-            }) is.makes
-            (λ none. is.brings.status_is
-            ∙ ap (λ xs. announcing xs is.status cut) none);
+        steps = inr (
+          is_command before t valid fetch (never_repeats old.left before t said pending fetch),
+          subst (λ k. IsCarriedOut Act k old.app t new.app) (sym takes_is) (record {
+            response = is.response;
+            status = is.status;
+            cut = cut;
+            is_cut = is_cut;
+            has_data = is.counts;
+            makes = is.makes;
+            received_is = is.brings.received_is;
+            status_is = is.brings.status_is;
+          }),
+        );
         said = subst (λ l. IsSaid l (Some t)) (sym is.brings.left_is)
             (fetched_said is.response is.status cut t
             (made_own Act old.app _ is.response is.status new.app is.makes) is.brings.status_is);
@@ -245,15 +243,19 @@ module _ {S : Type 0} (takes : S → Header → Bool) (Act : S → Did → S →
       by true None false false valid pending fetch takes_is is =
           let kept : Left = For_repeat t.header is.response is.status in
           let own = made_own Act old.app _ is.response is.status new.app is.makes in record {
-            deed = made_tells old new before t (asking t.header (count t.p3)) is.response is.status
-                (record {
-                  valid = valid;
-                  no_fetch = fetch;
-                  no_repeat = never_repeats old.left before t said pending fetch;
-                  header_is = refl;
-                  content_is = sym is.none_sent;
-                }) is.makes (λ none. is.brings.status_is
-                ∙ ap (λ xs. (handed kept xs is.status (count t.p3) cut).status) none);
+            steps = inr (
+              is_command before t valid fetch (never_repeats old.left before t said pending fetch),
+              subst (λ k. IsCarriedOut Act k old.app t new.app) (sym takes_is) (record {
+                response = is.response;
+                status = is.status;
+                cut = cut;
+                is_cut = is_cut;
+                has_data = is.none_sent;
+                makes = is.makes;
+                received_is = is.brings.received_is;
+                status_is = is.brings.status_is;
+              }),
+            );
             said = subst (λ l. IsSaid l (Some t)) (sym is.brings.left_is)
                 (handed_said kept is.response is.status (count t.p3) cut t own is.brings.status_is
                 (λ some few six. (
@@ -268,49 +270,25 @@ module _ {S : Type 0} (takes : S → Header → Bool) (Act : S → Did → S →
                 )));
           }
 
-  pub all_deeds : (items : List Item) (first last : CardState S) (before : Option Tpdu)
+  pub goes_through : (items : List Item) (first last : CardState S) (before : Option Tpdu)
       → IsSaid first.left before
       → RunsOver (Does takes Act) (after_reset reset) first items last
-      → (deeds : List Deed) × AreDeeds before items deeds
-      × GoesBy Act reset first.app deeds last.app
-  all_deeds [] first last before said runs = ([], refl, ap (λ (s : CardState S). s.app) runs)
-  all_deeds (Whole d ∷ items) first last before said (plan, mid, under, does, runs) =
-      let t = tells first mid before plan.cut (tpdu_of d) said does in
-      let (deeds, are, go) = all_deeds items mid last (Some (tpdu_of d)) t.said runs in
-      elim t.deed [
-        | inl (same, without) ↦ (
-          deeds,
-          inl (without, are),
-          subst (λ s. GoesBy Act reset s deeds last.app) same go,
-        )
-        | inr (deed, is, steps) ↦
-            (deed ∷ deeds, inr (deed, deeds, refl, is, are), (mid.app, steps, go))
-      ]
-  all_deeds (Cut_off part ∷ items) first last before said (is_part, runs) =
-      let (deeds, are, go) = all_deeds items (after_reset reset first) last None tt runs in
-      (Resets ∷ deeds, (deeds, refl, are), (reset first.app, refl, go))
+      → GoesThrough takes Act reset before first.app items last.app
+  goes_through [] first last before said runs = ap (λ (s : CardState S). s.app) runs
+  goes_through (Whole d ∷ items) first last before said (plan, mid, under, does, runs) =
+      let t = tells first mid before plan.cut (tpdu_of d) under.in_range said does in
+      (mid.app, t.steps, goes_through items mid last (Some (tpdu_of d)) t.said runs)
+  goes_through (Cut_off part ∷ items) first last before said (is_part, runs) =
+      goes_through items (after_reset reset first) last None tt runs
 
-pub deeds_of_the_line : {S : Type 0} (takes : S → Header → Bool) (Act : S → Did → S → Type 0)
-    (reset : S → S) (first last : CardState S) (items : List Item) → first.left ≡ Nothing_left
-    → RunsOver (Does takes Act) (after_reset reset) first items last
-    → (deeds : List Deed) × AreDeeds None items deeds × GoesBy Act reset first.app deeds last.app
-deeds_of_the_line takes Act reset first last items none runs =
-    all_deeds takes Act reset items first last None
-    (subst (λ l. IsSaid l None) (sym none) tt) runs
-
-pub through : {S : Type 0} (takes : S → Header → Bool) (Act : S → Did → S → Type 0)
-    (reset : S → S) (first last : CardState S) (events : List Event)
-    (prepared : Prepared (CardState S)) (stage : Stage) → first.left ≡ Nothing_left
-    → Leads (Does takes Act) (after_reset reset) first events last prepared stage
-    → IsThrough Act reset first.app events last.app
-through takes Act reset first last events prepared stage none leads =
-    let (deeds, are, go) =
-    deeds_of_the_line takes Act reset first last leads.items none leads.runs in
-    record {
-      items = leads.items;
-      part = front_characters leads.front;
-      deeds = deeds;
-      events_are = leads.events_are;
-      are_deeds = are;
-      goes = go;
-    }
+  pub through : (first last : CardState S) (events : List Event)
+      (prepared : Prepared (CardState S)) (stage : Stage) → first.left ≡ Nothing_left
+      → Leads (Does takes Act) (after_reset reset) first events last prepared stage
+      → IsThrough takes Act reset first.app events last.app
+  through first last events prepared stage none leads = record {
+    items = leads.items;
+    part = front_characters leads.front;
+    events_are = leads.events_are;
+    goes = goes_through leads.items first last None
+        (subst (λ l. IsSaid l None) (sym none) tt) leads.runs;
+  }

@@ -1,32 +1,16 @@
 -- What an application has been through, by what happened on the line.
-use Rattle.std.specs.Prelude.{◌≡◌, ◌⊎◌, ◌≤◌, length, List, [], ◌∷◌, ◌++◌, Option, Some, None, true, false}
-use Rattle.apdu_core.specs.HeaderBytes.{ins_is_valid}
-use Rattle.apdu_core.specs.StatusWord.{corrects}
+use Rattle.std.specs.Prelude.{◌≡◌, ◌⊎◌, ℕ, ◌≤◌, length, List, [], ◌∷◌, ◌++◌, Option, Some, None, Bool, true, false}
 use Rattle.std.specs.List.{flat_map}
+use Rattle.apdu_core.specs.declared.header.Header.{Header}
+use Rattle.apdu_core.specs.HeaderBytes.{ins_is_valid}
+use Rattle.apdu_core.specs.CommandBytes.{Command}
+use Rattle.apdu_core.specs.StatusWord.{StatusWord, corrects, count}
 use Rattle.t0_core.specs.Character.{Character}
 use Rattle.t0_core.specs.History.{Event, Item, Whole, Cut_off, events_of, passed}
 use Rattle.t0_core.specs.Meaning.{Tpdu, tpdu_of}
-use Rattle.apdu_core.specs.CommandBytes.{Command}
-use Rattle.command_card.specs.declared.application.TheConstants.{OWN_RESPONSE_LIMIT}
-use Rattle.command_card.specs.Carrying.{Did, IsTooLong}
-use Rattle.command_card.specs.State.{is_fetch}
-
--- a command that was carried out and took effect, one that did not since its response was too long,
--- or a reset
-pub data Deed : Type 0 where
-  Made : (did : Did) → Deed
-  Dropped : (command : Command) → Deed
-  Resets : Deed
-
-abbrev pub StepsBy : {S : Type 0} → (S → Did → S → Type 0) → (S → S) → S → Deed → S → Type 0
-StepsBy Act reset old (Made did) new = Act old did new × (length did.response ≤ OWN_RESPONSE_LIMIT)
-StepsBy Act reset old (Dropped c) new = IsTooLong Act old c × (new ≡ old)
-StepsBy Act reset old Resets new = new ≡ reset old
-
-abbrev pub GoesBy : {S : Type 0} → (S → Did → S → Type 0) → (S → S) → S → List Deed → S → Type 0
-GoesBy Act reset old [] new = new ≡ old
-GoesBy {S = S} Act reset old (deed ∷ deeds) new =
-    (mid : S) × StepsBy Act reset old deed mid × GoesBy Act reset mid deeds new
+use Rattle.t0_core.specs.Plan.{IsCut}
+use Rattle.command_card.specs.Carrying.{Did, Makes, asking, taking}
+use Rattle.command_card.specs.State.{For_repeat, Outcome, handed, is_fetch, taken}
 
 -- the same header again, with P3 as the 6CXX just before said
 abbrev pub Repeats : Option Tpdu → Tpdu → Type 0
@@ -39,37 +23,56 @@ abbrev pub IsWithout : Option Tpdu → Tpdu → Type 0
 IsWithout before t = (ins_is_valid t.header.ins ≡ false) ⊎ (is_fetch t.header ≡ true)
     ⊎ Repeats before t
 
--- The command that any other TPDU carries: its header, and the data to the card.
-pub record IsCarriedBy (before : Option Tpdu) (t : Tpdu) (c : Command) : Type 0 where
-  pub valid : ins_is_valid t.header.ins ≡ true
-  pub no_fetch : is_fetch t.header ≡ false
-  pub no_repeat : Repeats before t → ⊥
-  pub header_is : c.header ≡ t.header
-  pub content_is : c.content ≡ t.sent
+-- The command of any other TPDU. If data go to the card it has them, and no Le; otherwise Le, by
+-- P3.
+abbrev pub command_in : Bool → Tpdu → Command
+command_in true t = taking t.header t.sent
+command_in false t = asking t.header (count t.p3)
 
--- the deed of a TPDU that carries a command; the status of one without effect is 6F00
-abbrev pub IsDeedOf : Option Tpdu → Tpdu → Deed → Type 0
-IsDeedOf before t (Made did) = IsCarriedBy before t did.command
-IsDeedOf before t (Dropped c) = IsCarriedBy before t c × (t.status ≡ (0x6F, 0x00))
-IsDeedOf before t Resets = ⊥
+-- its data came, as many as P3 says, or none
+abbrev pub HasData : Bool → Tpdu → Type 0
+HasData true t = t.p3 ≡ length t.sent
+HasData false t = t.sent ≡ []
 
--- The deeds of these items, after the TPDU `before`: one for each whole TPDU that is a command, in
--- order, and one for each reset. A TPDU that a reset cut off has none.
-abbrev pub AreDeeds : Option Tpdu → List Item → List Deed → Type 0
-AreDeeds before [] deeds = deeds ≡ []
-AreDeeds before (Whole d ∷ items) deeds =
-    (IsWithout before (tpdu_of d) × AreDeeds (Some (tpdu_of d)) items deeds)
-    ⊎ ((deed : Deed) × (others : List Deed) × (deeds ≡ deed ∷ others)
-    × IsDeedOf before (tpdu_of d) deed × AreDeeds (Some (tpdu_of d)) items others)
-AreDeeds before (Cut_off part ∷ items) deeds =
-    (others : List Deed) × (deeds ≡ Resets ∷ others) × AreDeeds None items others
+-- what a response to it brings
+abbrev pub outcome_in : Bool → Tpdu → List ℕ → StatusWord → ℕ → Outcome
+outcome_in true t response status cut = taken response status cut
+outcome_in false t response status cut =
+    handed (For_repeat t.header response status) response status (count t.p3) cut
+
+-- One step of the application. Its response and status, under some cut, are what the TPDU shows.
+pub record IsCarriedOut {S : Type 0} (Act : S → Did → S → Type 0) (to_card : Bool) (old : S)
+    (t : Tpdu) (new : S) : Type 0 where
+  pub response : List ℕ
+  pub status : StatusWord
+  pub cut : ℕ
+  pub is_cut : IsCut cut
+  pub has_data : HasData to_card t
+  pub makes : Makes Act old (command_in to_card t) response status new
+  pub received_is : t.received ≡ (outcome_in to_card t response status cut).received
+  pub status_is : t.status ≡ (outcome_in to_card t response status cut).status
+
+-- A TPDU that is no command changes nothing. Any other is one step.
+abbrev pub StepsBy : {S : Type 0} → (S → Header → Bool) → (S → Did → S → Type 0) → Option Tpdu
+    → S → Tpdu → S → Type 0
+StepsBy takes Act before old t new = (IsWithout before t × (new ≡ old))
+    ⊎ ((IsWithout before t → ⊥) × IsCarriedOut Act (takes old t.header) old t new)
+
+-- The items in order, after the TPDU `before`: whole TPDUs, and resets. Of a TPDU that a reset cut
+-- off there is the reset alone.
+abbrev pub GoesThrough : {S : Type 0} → (S → Header → Bool) → (S → Did → S → Type 0) → (S → S)
+    → Option Tpdu → S → List Item → S → Type 0
+GoesThrough takes Act reset before old [] new = new ≡ old
+GoesThrough {S = S} takes Act reset before old (Whole d ∷ items) new =
+    (mid : S) × StepsBy takes Act before old (tpdu_of d) mid
+    × GoesThrough takes Act reset (Some (tpdu_of d)) mid items new
+GoesThrough takes Act reset before old (Cut_off part ∷ items) new =
+    GoesThrough takes Act reset None (reset old) items new
 
 -- Events at a card's end, and what the application has been through.
-pub record IsThrough {S : Type 0} (Act : S → Did → S → Type 0) (reset : S → S) (first : S)
-    (events : List Event) (last : S) : Type 0 where
+pub record IsThrough {S : Type 0} (takes : S → Header → Bool) (Act : S → Did → S → Type 0)
+    (reset : S → S) (first : S) (events : List Event) (last : S) : Type 0 where
   pub items : List Item
   pub part : List Character  -- of the TPDU in progress
-  pub deeds : List Deed
   pub events_are : events ≡ flat_map events_of items ++ passed part
-  pub are_deeds : AreDeeds None items deeds
-  pub goes : GoesBy Act reset first deeds last
+  pub goes : GoesThrough takes Act reset None first items last

@@ -51,14 +51,16 @@ pub fn an_exchange_gathers_what_is_asked_for<A: Application>()
 /// At most once, whatever characters the terminal sends and whenever the card is reset. The
 /// application has been through exactly the resets and the commands that whole TPDUs carried, in
 /// order, each once. The TPDUs without a command are known from the line: an INS of `6X` or `9X`,
-/// GET RESPONSE, and the repetition after `6CXX`. A command whose response is too long gets `6F00`
-/// and has no effect; nor has a TPDU that a reset cuts off. The events are those of a
-/// `t0_core::CardEnd` over the card (its clauses `led`), and nothing may be pending at first.
+/// GET RESPONSE, and the repetition after `6CXX`. Any other TPDU carries the command with its data,
+/// or with its P3 as Le, and brings the response and status of that one step. A command whose
+/// response is too long gets `6F00` and has no effect; nor has a TPDU that a reset cuts off. The
+/// events are those of a `t0_core::CardEnd` over the card (its clauses `led`), and nothing may be
+/// pending at first.
 pub fn each_command_at_most_once<A: Application>()
     ensures { (first last : CardState A.State) (events : List Event)
         (prepared : Prepared (CardState A.State)) (stage : Stage) → first.left ≡ Nothing_left →
         Leads (Does A.takes A.Does) (after_reset A.after_reset) first events last prepared stage →
-        IsThrough A.Does A.after_reset first.app events last.app }
+        IsThrough A.takes A.Does A.after_reset first.app events last.app }
 {}
 
 /// By whole commands, as at T=1, a command with Le 00 gathers exactly the response and status of

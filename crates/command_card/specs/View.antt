@@ -33,10 +33,10 @@ new_card app = record {
 }
 
 -- nothing is kept if nothing is pending
-abbrev pub IsWiped : Waiting → List ℕ → Type 0
-IsWiped waiting.Nothing kept = kept ≡ []
-IsWiped (waiting.Fetch from status) kept = Unit {0}
-IsWiped (waiting.Repeat header status) kept = Unit {0}
+abbrev pub IsEmptied : Waiting → List ℕ → Type 0
+IsEmptied waiting.Nothing kept = kept ≡ []
+IsEmptied (waiting.Fetch from status) kept = Unit {0}
+IsEmptied (waiting.Repeat header status) kept = Unit {0}
 
 -- what is pending in this buffer
 abbrev pub left_of : List ℕ → Waiting → Left
@@ -46,6 +46,15 @@ left_of bytes (waiting.Repeat header status) = For_repeat header bytes status
 
 abbrev pub state_of : {S : Type 0} → S → List ℕ → Waiting → CardState S
 state_of app kept waiting = record { app = app; left = left_of kept waiting }
+
+-- the fields of the card at T=1
+pub record AppletView (A : Type 0) : Type 0 where
+  pub app : A
+  pub kept : List ℕ
+  pub waiting : Waiting
+
+abbrev pub applet_in : {A S : Type 0} → (A → S) → AppletView A → CardState S
+applet_in standing c = state_of (standing c.app) c.kept c.waiting
 
 -- the buffer that an answer is in
 abbrev pub buffer_of : Bool → List ℕ → List ℕ → List ℕ

@@ -10,7 +10,7 @@ ghost use Rattle.t0_core.specs.DataRun.{IsRunAt};
 ghost use Rattle.command_card.specs.Carrying.{Makes, asking};
 ghost use Rattle.command_card.specs.State.{Hand, For_repeat, same_header, pending_for, announcing, fetch_left, handed, refusing};
 ghost use Rattle.command_card.specs.Meaning.{Does};
-ghost use Rattle.command_card.specs.View.{left_of, state_of, state_after, ask_of, prepared_of, buffer_of, bytes_of, sends, IsReady, IsEnded, IsWiped, Prepares, MaySend, WaitsFor, LeavesFor};
+ghost use Rattle.command_card.specs.View.{left_of, state_of, state_after, ask_of, prepared_of, buffer_of, bytes_of, sends, IsReady, IsEnded, IsEmptied, Prepares, MaySend, WaitsFor, LeavesFor};
 
 use crate::application::{Application, GET_RESPONSE, OWN_RESPONSE_LIMIT};
 use crate::ready::{Ending, Ready, Waiting};
@@ -115,12 +115,22 @@ pub(crate) fn carried_out<A: Application>(
     (status, true)
 }
 
-/// Overwrites the bytes with zeros, and drops them.
+/// Drops the bytes. They are overwritten with zeros, which is tested and not proved.
 pub(crate) fn wipe(bytes: &mut Vec<u8>)
     ensures { bytes.new.items ≡ [] }
 {
     bytes.fill(0);
     bytes.clear();
+}
+
+/// Drops the kept bytes, as `wipe`, if nothing is pending.
+pub(crate) fn wipe_ended(waiting: &Waiting, kept: &mut Vec<u8>)
+    ensures left { left_of kept.new.items waiting.now ≡ left_of kept.old.items waiting.now }
+    ensures emptied { IsEmptied waiting.now kept.new.items }
+{
+    if matches!(waiting, Waiting::Nothing) {
+        wipe(kept);
+    }
 }
 
 /// Nothing is sent but a status, and nothing is pending.
@@ -343,7 +353,7 @@ pub(crate) fn take_effect<A: Application>(
         ≡ state_after (A.standing application.old) (A.next application.old) kept.old.items
         fresh.old.items ending.now }
     ensures fresh { fresh.new.items ≡ [] }
-    ensures kept { IsWiped ending.now.left kept.new.items }
+    ensures kept { IsEmptied ending.now.left kept.new.items }
 {
     if ending.settles {
         application.settle();
@@ -352,7 +362,5 @@ pub(crate) fn take_effect<A: Application>(
         swap(kept, fresh);
     }
     wipe(fresh);
-    if matches!(ending.left, Waiting::Nothing) {
-        wipe(kept);
-    }
+    wipe_ended(&ending.left, kept);
 }

@@ -6,11 +6,12 @@ ghost use Rattle.command_card.specs.AtT1.{HandsOut, Responds, DoesAt, status_byt
 ghost use Rattle.command_card.specs.State.{Nothing_left};
 ghost use Rattle.command_card.specs.View.{WaitsFor, after_reset, left_of, state_of};
 
-use crate::answer::{announcing, carried_out, fetch_left, wipe, word};
+use crate::answer::{announcing, carried_out, fetch_left, wipe, wipe_ended, word};
 use crate::application::{Application, GET_RESPONSE};
 use crate::ready::Waiting;
 use apdu_core::{ApduFault, Command, Status};
 use std::alloc::{AllocError, Global};
+use std::marker::Model;
 use t1_core::{Applet, Requests};
 
 /// The longest response in bytes: 256 of data, and the status.
@@ -21,7 +22,7 @@ pub const COMMAND_LIMIT: usize = 261;
 
 /// An application above its end of a line at T=1, or for whole commands. It gets each command as
 /// T=0 shows it, so it answers alike on both lines. At most Le bytes of a response come. `61XX`
-/// announces the rest, which GET RESPONSE fetches. Responses are wiped once they are sent.
+/// announces the rest, which GET RESPONSE fetches. Of a response that is sent nothing is held.
 ///
 /// Bytes that are no short command get `6700`, INS `6X` and `9X` `6D00`, and nothing changes. Data
 /// in the wrong direction get `6700`. The other statuses are those of `CommandCard`.
@@ -32,10 +33,26 @@ pub struct AppletOf<A: Application> {
     pub(crate) waiting: Waiting,
 }
 
+impl<A: Application> Model for AppletOf<A> {
+    ghost use Rattle.command_card.specs.View.{AppletView, IsEmptied};
+
+    ghost Value = { AppletView A };
+
+    ghost view = { λ c. record {
+      app = c.application;
+      kept = c.kept.items;
+      waiting = c.waiting;
+    } };
+
+    ghost invariant = { λ c. IsEmptied c.waiting c.kept.items };
+}
+
 impl<A: Application> AppletOf<A> {
+    ghost use Rattle.command_card.specs.View.{applet_in};
+
     /// Makes the card of an application. Nothing is pending.
     pub fn new(alloc: Global, application: A) -> AppletOf<A>
-        ensures { state_of (A.standing result.application) result.kept.items result.waiting
+        ensures { applet_in A.standing result
             ≡ record { app = A.standing application; left = Nothing_left } }
     {
         AppletOf {
@@ -47,7 +64,7 @@ impl<A: Application> AppletOf<A> {
 
     /// Returns the application.
     pub fn application(&self) -> &A
-        ensures { result.now ≡ self.now.application }
+        ensures { result.now ≡ self.now.app }
     {
         &self.application
     }
@@ -55,9 +72,8 @@ impl<A: Application> AppletOf<A> {
     /// Resets the card and its application, at any time between two commands. Nothing is pending
     /// afterwards.
     pub fn reset(&mut self)
-        ensures { state_of (A.standing self.new.application) self.new.kept.items self.new.waiting
-            ≡ after_reset A.after_reset (state_of (A.standing self.old.application)
-            self.old.kept.items self.old.waiting) }
+        ensures { applet_in A.standing self.new
+            ≡ after_reset A.after_reset (applet_in A.standing self.old) }
     {
         self.application.reset();
         wipe(&mut self.kept);
@@ -155,6 +171,7 @@ pub(crate) fn respond<A: Application>(
 
 impl<A: Application> Applet for AppletOf<A> {
     ghost use Rattle.command_card.specs.State.{CardState};
+    ghost use Rattle.command_card.specs.View.{applet_in};
 
     const LIMIT: usize = COMMAND_LIMIT;
 
@@ -162,7 +179,7 @@ impl<A: Application> Applet for AppletOf<A> {
 
     ghost State = { CardState A.State };
 
-    ghost standing = { λ c. state_of (A.standing c.application) c.kept.items c.waiting };
+    ghost standing = { λ c. applet_in A.standing c };
 
     ghost Does = { DoesAt A.takes A.Does };
 
@@ -182,9 +199,7 @@ impl<A: Application> Applet for AppletOf<A> {
                     &command,
                     response,
                 );
-                if matches!(self.waiting, Waiting::Nothing) {
-                    wipe(&mut self.kept);
-                }
+                wipe_ended(&self.waiting, &mut self.kept);
             }
             Err(ApduFault::InvalidIns) => write(&[], word(0x6D, 0x00), response),
             Err(ApduFault::TooShort | ApduFault::BadLength) => {

@@ -26,7 +26,7 @@ pub struct CommandCard<A: Application> {
 
 impl<A: Application> Model for CommandCard<A> {
     ghost use Rattle.apdu_core.specs.declared.header.Header.{Header};
-    ghost use Rattle.command_card.specs.View.{CardOf, IsReady, IsWiped, MaySend, WaitsFor, LeavesFor};
+    ghost use Rattle.command_card.specs.View.{CardOf, IsReady, IsEmptied, MaySend, WaitsFor, LeavesFor};
 
     ghost Value = { CardOf A };
 
@@ -42,7 +42,7 @@ impl<A: Application> Model for CommandCard<A> {
         (A.next c.application) c.kept.items c.fresh.items c.waiting c.ready
         × ((h : Header) → WaitsFor c.waiting h → MaySend A.takes h)
         × ((h : Header) → LeavesFor c.ready h → MaySend A.takes h)
-        × IsWiped c.waiting c.kept.items };
+        × IsEmptied c.waiting c.kept.items };
 }
 
 impl<A: Application> CommandCard<A> {
@@ -72,7 +72,8 @@ impl<A: Application> CommandCard<A> {
 
 impl<A: Application> TpduCard for CommandCard<A> {
     ghost use Rattle.std.specs.Prelude.{◌≡◌, []};
-    ghost use Rattle.t0_core.specs.Meaning.{Nothing};
+    ghost use Rattle.t0_core.specs.CardContract.{IsDecided};
+    ghost use Rattle.t0_core.specs.Meaning.{Decided, Nothing};
     ghost use Rattle.command_card.specs.State.{CardState};
     ghost use Rattle.command_card.specs.Meaning.{Does};
     ghost use Rattle.command_card.specs.View.{standing_in, prepared_in, after_reset, MayReceive, MaySend};
@@ -134,7 +135,13 @@ impl<A: Application> TpduCard for CommandCard<A> {
         status
     }
 
-    fn answered(&mut self) {
+    fn answered(&mut self)
+        requires { IsDecided (prepared_in A.standing A.next self.old) }
+        ensures stands { (next : CardState A.State) → prepared_in A.standing A.next self.old
+            ≡ Decided next → standing_in A.standing self.new ≡ next }
+        ensures done { prepared_in A.standing A.next self.new ≡ Nothing }
+        ensures emptied { self.new.fresh ≡ [] }
+    {
         let Ready::Leaves { ending } = self.ready else {
             unreachable!()
         };
@@ -152,7 +159,7 @@ impl<A: Application> TpduCard for CommandCard<A> {
         ensures stands { standing_in A.standing self.new
             ≡ after_reset A.after_reset (standing_in A.standing self.old) }
         ensures dropped { prepared_in A.standing A.next self.new ≡ Nothing }
-        ensures wiped { self.new.fresh ≡ [] }
+        ensures emptied { self.new.fresh ≡ [] }
     {
         self.application.reset();
         wipe(&mut self.kept);

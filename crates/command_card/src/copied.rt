@@ -1,5 +1,5 @@
 //! An application that changes at once. The card works on a copy of it.
-ghost use Rattle.std.specs.Prelude.{◌≡◌, [], None, IfOk, IfErr};
+ghost use Rattle.std.specs.Prelude.{◌≡◌, [], None, IfOk, IfErr, OnErr};
 ghost use Rattle.command_card.specs.Carrying.{Did, IsOwn, out_of_memory};
 
 use crate::application::Application;
@@ -115,20 +115,40 @@ impl<E: Eager + Drop> Application for Copied<E> {
         &mut self,
         command: Command<'_>,
         response: &mut Vec<u8>,
-    ) -> Result<Status, AllocError> {
+    ) -> Result<Status, AllocError>
+        requires { response.old.items ≡ [] }
+        ensures stands { self.new.current ≡ self.old.current }
+        ensures done { IfOk result (λ status. E.Does (E.standing self.old.current) (record {
+          command = command.entry;
+          response = response.new.items;
+          status = status;
+        }) (next_of E.standing self.new.current self.new.changed) × IsOwn status) }
+        ensures failed { IfErr result (λ e. E.Does (E.standing self.old.current)
+            (out_of_memory command.entry) (E.standing self.old.current)) }
+        ensures dropped { OnErr result (self.new.changed ≡ None) }
+    {
+        self.changed = None;
         let mut copy = self.current.copy()?;
         let status = copy.carry_out(command, response)?;
         self.changed = Some(copy);
         Ok(status)
     }
 
-    fn settle(&mut self) {
+    fn settle(&mut self)
+        ensures settles { E.standing self.new.current
+            ≡ next_of E.standing self.old.current self.old.changed }
+        ensures dropped { self.new.changed ≡ None }
+    {
         if let Some(changed) = self.changed.take() {
             self.current = changed;
         }
     }
 
-    fn reset(&mut self) {
+    fn reset(&mut self)
+        ensures resets { E.standing self.new.current
+            ≡ E.after_reset (E.standing self.old.current) }
+        ensures dropped { self.new.changed ≡ None }
+    {
         self.changed = None;
         self.current.reset();
     }

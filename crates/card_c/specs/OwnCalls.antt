@@ -24,13 +24,13 @@ use Rattle.command_card.specs.declared.given.Directions.{Directions}
 use Rattle.command_card.specs.declared.given.Directions.TheVariants as way
 use Rattle.command_card.specs.declared.own.Wanted.{Wanted}
 use Rattle.command_card.specs.declared.own.Wanted.TheVariants as wanted
-use Rattle.command_card.specs.declared.application.TheConstants.{OWN_RESPONSE_LIMIT}
-use Rattle.command_card.specs.Carrying.{IsOwn}
-use Rattle.command_card.specs.Given.{Answers, GivenState, after_drop, settled, takes_data, with_answer}
+use Rattle.command_card.specs.declared.own.GiveFault.{GiveFault}
+use Rattle.command_card.specs.declared.own.GiveFault.TheVariants as fault
+use Rattle.command_card.specs.Given.{Answers, GivenState, after_drop, at_rest, new_given, settled, takes_data}
 use Rattle.command_card.specs.Meaning.{Does}
 use Rattle.command_card.specs.State.{CardState}
 use Rattle.command_card.specs.View.{CardOf, MayReceive, MaySend, after_reset, new_card, prepared_in, standing_in}
-use Rattle.command_card.specs.Wanted.{IsWanted, MayTake, may_decide, wanted_by, wanted_for}
+use Rattle.command_card.specs.Wanted.{IsNotTaken, IsTaken as IsGiven, IsWanted, may_decide, wanted_by, wanted_for}
 use Rattle.card_c.specs.declared.card_side.CardSide.{CardSide}
 use Rattle.card_c.specs.declared.card_side.CardSide.TheVariants.{Own, OwnAtT1}
 use Rattle.card_c.specs.declared.command_record.CommandRecord.{CommandRecord}
@@ -48,12 +48,12 @@ OwnCard = CardOf GivenState
 abbrev pub own_card : Ghosts OwnCard
 own_card = record {
   State = CardState GivenState;
-  standing = λ card. standing_in (λ s. s) card;
+  standing = λ card. standing_in at_rest card;
   Does = Does takes_data Answers;
   after_reset = after_reset after_drop;
   MayReceive = MayReceive takes_data;
   MaySend = MaySend takes_data;
-  prepared = λ card. prepared_in (λ s. s) settled card;
+  prepared = λ card. prepared_in at_rest settled card;
 }
 
 -- the card at T=1, as it was at T=0, and another in its place
@@ -234,7 +234,7 @@ abbrev pub IsFresh : Directions → OwnSide → Type 0
 IsFresh directions own = (own.plans ≡ record { rest = []; kept = None })
     × (own.whole ≡ whole.Nothing) × (own.asked.items ≡ [])
     × (own.end ≡ record {
-      card = new_card (record { directions = directions; given = None; settled = true });
+      card = new_card (new_given directions);
       stage = Taking_header [];
     })
     × OwnLed (own_card.standing own.end.card) [] own.end
@@ -327,26 +327,25 @@ Decides to_card (OwnAtT1 at) code new = (end : EndOf OwnCard)
     × DecidesAt whole.Command at.asked.items to_card (own_end at) code end
 Decides to_card side code new = (code ≡ gt_state) × (new ≡ side)
 
--- a status word with this number, which an application may give
+-- the two bytes of this number, as a status word
 abbrev pub word_of : ℕ → StatusWord
 word_of number = (number / 256, number % 256)
 
-abbrev pub MayBeGiven : List ℕ → ℕ → Type 0
-MayBeGiven bytes number = IsStatusWord (word_of number) × IsOwn (word_of number)
-    × (length bytes ≤ OWN_RESPONSE_LIMIT)
+abbrev pub give_code : GiveFault → ℤ
+give_code fault.NotWanted = gt_state
+give_code fault.TooLong = gt_argument
+give_code fault.CardsOwn = gt_argument
+give_code fault.OutOfMemory = gt_memory
 
--- The command in progress gets this response, and no other goes out for it. Or it is refused: no
--- application may give it, memory ran out, or the card takes none now.
+-- The command in progress gets this response, and no other goes out for it. Or nothing changes, for
+-- the first reason that holds: the number is no status word, or a reason of the card.
 abbrev pub GivesOne : List ℕ → ℕ → EndOf OwnCard → ℤ → EndOf OwnCard → Type 0
-GivesOne bytes number end code new =
-    (MayTake end.card × MayBeGiven bytes number × (code ≡ gt_ok)
-    × IsEndWith end (record end.card {
-      app = with_answer end.card.app bytes (word_of number);
-    }) new)
-    ⊎ ((¬ MayBeGiven bytes number) × (code ≡ gt_argument) × IsEndWith end end.card new)
-    ⊎ (MayTake end.card × MayBeGiven bytes number × (code ≡ gt_memory)
-    × IsEndWith end end.card new)
-    ⊎ ((¬ MayTake end.card) × (code ≡ gt_state) × IsEndWith end end.card new)
+GivesOne bytes number end code new = (new.stage ≡ end.stage)
+    × (((¬ IsStatusWord (word_of number)) × (code ≡ gt_argument) × (new.card ≡ end.card))
+    ⊎ (IsStatusWord (word_of number) × (why : GiveFault) × (code ≡ give_code why)
+    × IsNotTaken end.card bytes (word_of number) why × (new.card ≡ end.card))
+    ⊎ (IsStatusWord (word_of number) × (code ≡ gt_ok)
+    × IsGiven end.card bytes (word_of number) new.card))
 
 -- the same of the command that waits, if one does
 abbrev pub RespondsOne : Wanted → List ℕ → ℕ → EndOf OwnCard → ℤ → EndOf OwnCard → Type 0

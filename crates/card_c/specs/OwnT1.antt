@@ -13,7 +13,7 @@ use Rattle.command_card.specs.declared.given_applet.GivenApplet.{GivenApplet}
 use Rattle.command_card.specs.declared.own.Wanted.{Wanted}
 use Rattle.command_card.specs.declared.own.Wanted.TheVariants as wanted
 use Rattle.command_card.specs.AtT1.{DoesBytes}
-use Rattle.command_card.specs.Given.{GivenState}
+use Rattle.command_card.specs.Given.{GivenState, at_rest}
 use Rattle.command_card.specs.State.{CardState}
 use Rattle.command_card.specs.View.{standing_in}
 use Rattle.command_card.specs.Wanted.{IsWanted, RespondsAtT1, taken_back}
@@ -32,7 +32,7 @@ abbrev pub own_applet : Ghosts GivenApplet
 own_applet = record {
   LIMIT = 261;
   State = CardState GivenState;
-  standing = λ applet. standing_in (λ s. s) applet.end.card;
+  standing = λ applet. standing_in at_rest applet.end.card;
   Does = DoesBytes RespondsAtT1;
 }
 

@@ -41,8 +41,8 @@ TriesTpdu tpdu room len room' len' s went t =
     × IsCarriedOut own_card tpdu s.0 s.1 (data_room asked) room len code t.0 t.1 room' len')
 
 -- A command at an end at rest: the array is too small; it waits for the application; memory ran
--- out; or the response is written, and wiped in the card. It is the one that was given, as far as
--- Le asks for it.
+-- out; or the response is written, and the card holds it no longer. It is the one that was given,
+-- as far as Le asks for it.
 abbrev pub TriesCommand : Command → List ℕ → ℕ → List ℕ → ℕ → EndOf OwnCard → Went
     → EndOf OwnCard → Type 0
 TriesCommand c room len room' len' end went end' =

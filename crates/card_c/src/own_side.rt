@@ -64,8 +64,15 @@ impl OwnSide {
         ensures plans { self.new.plans ≡ self.old.plans }
         ensures dropped { (self.new.whole ≡ whole.Nothing) × (self.new.asked.items ≡ []) }
     {
-        self.asked.fill(0);
-        self.asked.clear();
+        forget(&mut self.asked);
         self.whole = Whole::Nothing;
     }
+}
+
+/// Drops the bytes that were shown to the caller, and overwrites them.
+pub(crate) fn forget(asked: &mut Vec<u8>)
+    ensures { asked.new.items ≡ [] }
+{
+    asked.fill(0);
+    asked.clear();
 }

@@ -11,7 +11,7 @@ use crate::code;
 use crate::copied::copied;
 use crate::handle::{Handle, on};
 use crate::held_card::CardHandle;
-use crate::own_side::{OwnSide, OwnT1Side, Whole};
+use crate::own_side::{OwnSide, OwnT1Side, Whole, forget};
 use crate::own_whole::wanted_in;
 use command_card::{GivenApplet, Wanted, take_back, wanted_next};
 use std::alloc::{AllocError, Global};
@@ -131,14 +131,6 @@ fn copy_command(end: &PatientCard<GivenApplet>, asked: &mut Vec<u8>) -> Result<(
         return Err(AllocError);
     }
     Ok(())
-}
-
-/// Wipes the command that was shown to the caller.
-fn forget(asked: &mut Vec<u8>)
-    ensures { asked.new.items ≡ [] }
-{
-    asked.fill(0);
-    asked.clear();
 }
 
 /// Takes bytes of the terminal up to the end of its block.

@@ -262,12 +262,12 @@ fn try_command(
     }
 }
 
-/// Writes the response to the last command, for which there is room, and wipes it in the card.
+/// Writes the response to the last command, for which there is room. The card then holds none.
 fn hand_over(end: &mut CardEnd<CommandCard<Given>>, response: &mut [u8], len: &mut usize)
     requires fits { length end.old.card.fresh ≤ length response.old }
     requires free { is_free end.old.card.ready ≡ true }
     ensures stage { end.new.stage ≡ end.old.stage }
-    ensures wiped { end.new.card ≡ record end.old.card { fresh = [] } }
+    ensures emptied { end.new.card ≡ record end.old.card { fresh = [] } }
     ensures copied { IsCopied end.old.card.fresh response.old gt_ok response.new }
     ensures counted { len.new ≡ length end.old.card.fresh }
 {

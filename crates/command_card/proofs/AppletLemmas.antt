@@ -1,11 +1,11 @@
--- What the card responds to a command that is too long, and after the last response is wiped.
+-- What the card responds to a command that is too long, and after the last response is dropped.
 use Rattle.std.proofs.Common.{◌≡◌, ℕ, ◌<◌, List, [], length, Bool, true, false, refl, if◌then◌else◌}
 use Rattle.apdu_core.specs.CommandBytes.{Command}
 use Rattle.apdu_core.specs.CommandLaws.{has_no_form}
 use Rattle.t1_core.specs.declared.applet.Requests.{Requests}
 use Rattle.t1_core.specs.CardSide.{no_requests}
 use Rattle.command_card.specs.AtT1.{DoesBytes, status_bytes}
-use Rattle.command_card.specs.Given.{GivenState}
+use Rattle.command_card.specs.Given.{GivenState, at_rest}
 use Rattle.command_card.specs.State.{CardState}
 use Rattle.command_card.specs.View.{CardOf, standing_in}
 use Rattle.command_card.specs.Wanted.{forgotten_by, is_free}
@@ -24,9 +24,9 @@ too_long_does Does old new response asks is stays none command long = record {
 }
 
 pub forgotten_stands : (c : CardOf GivenState)
-    → standing_in (λ s. s) (forgotten_by c) ≡ standing_in (λ s. s) c
+    → standing_in at_rest (forgotten_by c) ≡ standing_in at_rest c
 forgotten_stands c = at (is_free c.ready) where
   at : (free : Bool)
-      → standing_in (λ s. s) (if free then record c { fresh = [] } else c) ≡ standing_in (λ s. s) c
+      → standing_in at_rest (if free then record c { fresh = [] } else c) ≡ standing_in at_rest c
   at true = refl
   at false = refl

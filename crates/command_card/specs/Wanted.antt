@@ -1,5 +1,5 @@
 -- What a card of given responses asks its caller before it continues.
-use Rattle.std.specs.Prelude.{◌≡◌, ◌⊎◌, ℕ, ◌<◌, ◌≤◌, ◌==◌, ◌&&◌, not, List, [], ◌∷◌, length, Option, Some, None, Bool, true, false, unwrap_or, is_some, if◌then◌else◌}
+use Rattle.std.specs.Prelude.{◌≡◌, ◌≢◌, ◌⊎◌, ℕ, ◌<◌, ◌≤◌, ◌==◌, ◌&&◌, not, List, [], ◌∷◌, length, Option, Some, None, Bool, true, false, unwrap_or, is_some, if◌then◌else◌}
 use Rattle.apdu_core.specs.declared.header.Header.{Header}
 use Rattle.apdu_core.specs.HeaderBytes.{ins_is_valid}
 use Rattle.apdu_core.specs.CommandBytes.{Command}
@@ -18,7 +18,7 @@ use Rattle.command_card.specs.declared.ready.Ready.{Ready}
 use Rattle.command_card.specs.declared.ready.Ready.TheVariants as ready
 use Rattle.command_card.specs.Carrying.{IsOwn, asking, taking}
 use Rattle.command_card.specs.AtT1.{Responds}
-use Rattle.command_card.specs.Given.{GivenState, Gives, after_drop, takes_data, with_answer, without_answer}
+use Rattle.command_card.specs.Given.{GivenState, Gives, after_drop, at_rest, takes_data, with_answer, without_answer}
 use Rattle.command_card.specs.Meaning.{Kind, Invalid, Hands, Unfetched, Takes, Asks, kind_in}
 use Rattle.command_card.specs.State.{CardState, is_fetch}
 use Rattle.command_card.specs.View.{CardOf, standing_in}
@@ -60,7 +60,7 @@ wanted_as need.AfterData h p3 bytes = wanted.Response (taking h bytes)
 
 abbrev pub wanted_by : CardOf GivenState → Header → ℕ → List ℕ → Wanted
 wanted_by c h p3 bytes =
-    wanted_at (need_in (standing_in (λ s. s) c) h p3) (is_some c.app.given) h p3 bytes
+    wanted_at (need_in (standing_in at_rest c) h p3) (is_some c.app.given) h p3 bytes
 
 -- after the data that the card waits for
 abbrev pub wanted_after : Bool → Ready → List ℕ → Wanted
@@ -105,7 +105,7 @@ IsNotTaken c bytes status fault.TooLong = MayTake c × (OWN_RESPONSE_LIMIT < len
 IsNotTaken c bytes status fault.CardsOwn =
     MayTake c × (length bytes ≤ OWN_RESPONSE_LIMIT) × (¬ IsOwn status)
 IsNotTaken c bytes status fault.OutOfMemory =
-    MayTake c × (length bytes ≤ OWN_RESPONSE_LIMIT) × IsOwn status
+    MayTake c × (length bytes ≤ OWN_RESPONSE_LIMIT) × IsOwn status × (bytes ≢ [])
 
 -- a response is taken
 abbrev pub IsTaken : CardOf GivenState → List ℕ → StatusWord → CardOf GivenState → Type 0
@@ -113,7 +113,7 @@ IsTaken old bytes status new = MayTake old × IsOwn status
     × (length bytes ≤ OWN_RESPONSE_LIMIT)
     × (new ≡ record old { app = with_answer old.app bytes status })
 
--- what the card answered to the last whole command is wiped, unless a TPDU has reached it
+-- what the card answered to the last whole command is dropped, unless a TPDU has reached it
 abbrev pub forgotten_by : CardOf GivenState → CardOf GivenState
 forgotten_by c = if is_free c.ready then record c { fresh = [] } else c
 

@@ -1,8 +1,8 @@
 //! An application whose responses come from outside, one for each command.
-ghost use Rattle.std.specs.Prelude.{◌≡◌, ◌<◌, ◌≤◌, ◌^◌, [], length, true, None, is_some, IfOk, OnOk, OnErr};
+ghost use Rattle.std.specs.Prelude.{◌≡◌, ◌≢◌, ◌<◌, ◌≤◌, ◌^◌, [], length, true, None, is_some, IfOk, OnOk, OnErr};
 ghost use Rattle.command_card.specs.declared.application.TheConstants.{OWN_RESPONSE_LIMIT};
 ghost use Rattle.command_card.specs.Carrying.{IsOwn};
-ghost use Rattle.command_card.specs.Given.{IsGiven, after_drop, forgotten, go_to_card, settled, with_answer, without_answer};
+ghost use Rattle.command_card.specs.Given.{IsGiven, after_drop, forgotten, go_to_card, new_given, settled, with_answer, without_answer};
 ghost use Rattle.command_card.specs.declared.given.Directions.TheVariants as way;
 
 use crate::answer::wipe;
@@ -65,7 +65,7 @@ pub struct Given {
 }
 
 impl Model for Given {
-    ghost use Rattle.std.specs.Prelude.{◌≡◌, ◌≤◌, [], length, MatchOption, if◌then◌else◌};
+    ghost use Rattle.std.specs.Prelude.{◌≡◌, ◌≤◌, ◌&&◌, [], length, is_some, MatchOption, if◌then◌else◌};
     ghost use Rattle.command_card.specs.declared.application.TheConstants.{OWN_RESPONSE_LIMIT};
     ghost use Rattle.command_card.specs.Carrying.{IsOwn};
     ghost use Rattle.command_card.specs.Given.{GivenState, answer_of};
@@ -76,6 +76,7 @@ impl Model for Given {
       directions = g.directions;
       given = answer_of g.status g.bytes.items;
       settled = g.settled;
+      handed = is_some g.status && g.used;
     } };
 
     ghost invariant = { λ g. (g.spare.items ≡ (if g.used then [] else g.bytes.items))
@@ -86,7 +87,7 @@ impl Model for Given {
 impl Given {
     /// Makes the application, without a response. It counts as settled.
     pub fn new(alloc: Global, directions: Directions) -> Given
-        ensures { result ≡ record { directions = directions; given = None; settled = true } }
+        ensures { result ≡ new_given directions }
     {
         Given {
             directions,
@@ -128,7 +129,7 @@ impl Given {
         requires none { self.old.given ≡ None }
         requires own { IsOwn status }
         requires short { length bytes.now ≤ OWN_RESPONSE_LIMIT }
-        ensures failed { OnErr result (self.new ≡ self.old) }
+        ensures failed { OnErr result ((self.new ≡ self.old) × (bytes.now ≢ [])) }
         ensures done { OnOk result (self.new ≡ with_answer self.old bytes.now status) }
     {
         self.used = true;
@@ -195,7 +196,7 @@ impl Given {
 /// Replaces the content of `into`. If memory runs out, nothing is left of it.
 fn copied(bytes: &[u8], into: &mut Vec<u8>) -> Result<(), AllocError>
     ensures done { OnOk result (into.new.items ≡ bytes.now) }
-    ensures failed { OnErr result (into.new.items ≡ []) }
+    ensures failed { OnErr result ((into.new.items ≡ []) × (bytes.now ≢ [])) }
 {
     wipe(into);
     if bytes.is_empty() {
@@ -205,11 +206,13 @@ fn copied(bytes: &[u8], into: &mut Vec<u8>) -> Result<(), AllocError>
 }
 
 impl Application for Given {
-    ghost use Rattle.command_card.specs.Given.{GivenState, Answers, after_drop, settled, takes_data};
+    ghost use Rattle.std.specs.Prelude.{true, IfErr, is_ok};
+    ghost use Rattle.command_card.specs.Carrying.{out_of_memory};
+    ghost use Rattle.command_card.specs.Given.{GivenState, Answers, after_drop, at_rest, has_answer, settled, takes_data};
 
     ghost State = { GivenState };
 
-    ghost standing = { λ g. g };
+    ghost standing = { at_rest };
 
     ghost next = { settled };
 
@@ -227,7 +230,20 @@ impl Application for Given {
         &mut self,
         _command: Command<'_>,
         response: &mut Vec<u8>,
-    ) -> Result<Status, AllocError> {
+    ) -> Result<Status, AllocError>
+        requires { response.old.items ≡ [] }
+        ensures when { is_ok result ≡ has_answer self.old }
+        ensures stands { at_rest self.new ≡ at_rest self.old }
+        ensures done { IfOk result (λ status. Answers (at_rest self.old) (record {
+          command = _command.entry;
+          response = response.new.items;
+          status = status;
+        }) (settled self.new) × IsOwn status) }
+        ensures failed { IfErr result (λ e. Answers (at_rest self.old)
+            (out_of_memory _command.entry) (at_rest self.old)) }
+        ensures handed { OnOk result (self.new ≡ record self.old { handed = true }) }
+        ensures kept { OnErr result (self.new ≡ self.old) }
+    {
         let Some(status) = self.status else {
             return Err(AllocError);
         };
@@ -239,12 +255,18 @@ impl Application for Given {
         Ok(status)
     }
 
-    fn settle(&mut self) {
+    fn settle(&mut self)
+        ensures stands { at_rest self.new ≡ settled self.old }
+        ensures settles { self.new ≡ settled self.old }
+    {
         self.drop_response();
         self.settled = true;
     }
 
-    fn reset(&mut self) {
+    fn reset(&mut self)
+        ensures stands { at_rest self.new ≡ after_drop (at_rest self.old) }
+        ensures resets { self.new ≡ after_drop self.old }
+    {
         self.drop_response();
     }
 }

@@ -41,7 +41,8 @@ fn no_requests() -> Requests
 }
 
 impl Applet for GivenApplet {
-    ghost use Rattle.command_card.specs.Given.{GivenState};
+    ghost use Rattle.command_card.specs.Given.{GivenState, at_rest};
+    ghost use Rattle.std.specs.Prelude.{MatchResult};
     ghost use Rattle.command_card.specs.AtT1.{DoesBytes};
     ghost use Rattle.command_card.specs.State.{CardState};
     ghost use Rattle.command_card.specs.View.{standing_in};
@@ -53,16 +54,22 @@ impl Applet for GivenApplet {
 
     ghost State = { CardState GivenState };
 
-    ghost standing = { λ c. standing_in (λ s. s) c.end.card };
+    ghost standing = { λ c. standing_in at_rest c.end.card };
 
     ghost Does = { DoesBytes RespondsAtT1 };
 
     #[tactic(auto, using(crate::proofs::AppletLemmas::forgotten_stands))]
-    fn carry_out(
-        &mut self,
-        command: &[u8],
-        response: &mut Vec<u8>,
-    ) -> Result<Requests, AllocError> {
+    fn carry_out(&mut self, command: &[u8], response: &mut Vec<u8>) -> Result<Requests, AllocError>
+        ensures does { MatchResult result
+            (λ asks. DoesBytes RespondsAtT1 (standing_in at_rest self.old.end.card) (record {
+              command = command.now;
+              response = response.new.items;
+              asks = asks;
+            }) (standing_in at_rest self.new.end.card))
+            (λ _. standing_in at_rest self.new.end.card
+            ≡ standing_in at_rest self.old.end.card) }
+        ensures emptied { self.old.end.card.fresh ≡ [] → self.new.end.card.fresh ≡ [] }
+    {
         response.clear();
         response.reserve(RESPONSE_ROOM)?;
         match Command::read(command) {

@@ -4,12 +4,12 @@ ghost use Rattle.apdu_core.specs.declared.header.Header.{Header};
 ghost use Rattle.apdu_core.specs.CommandBytes.{IsCommand};
 ghost use Rattle.command_card.specs.declared.given.Directions.TheVariants as way;
 ghost use Rattle.command_card.specs.declared.applet.TheConstants.{RESPONSE_ROOM};
-ghost use Rattle.command_card.specs.Given.{Gives, settled, takes_data};
+ghost use Rattle.command_card.specs.Given.{Gives, at_rest, settled, takes_data};
 ghost use Rattle.command_card.specs.AtT1.{Responds, may_bring};
 ghost use Rattle.command_card.specs.View.{WaitsFor, standing_in, state_of, prepared_in};
 ghost use Rattle.command_card.specs.Wanted.{IsNotTaken, IsTaken, IsWanted, RespondsAs, forgotten_by, is_free, is_open, is_known, may_decide, need_in, taken_back, wanted_as, wanted_by, wanted_for, wanted_with};
 
-use crate::answer::{pending_for, wipe, word};
+use crate::answer::{pending_for, wipe, wipe_ended, word};
 use crate::applet::{RESPONSE_ROOM, hand_out, write};
 use crate::application::{Application, GET_RESPONSE, OWN_RESPONSE_LIMIT};
 use crate::card::CommandCard;
@@ -90,7 +90,7 @@ impl CommandCard<Given> {
     /// given already. Nothing for INS `6X` or `9X`, for GET RESPONSE, and for the header and P3
     /// that get a response after `6CXX`.
     pub fn need(&self, header: Header, p3: u8) -> Need
-        ensures { result ≡ need_in (standing_in (λ s. s) self.now) header p3 }
+        ensures { result ≡ need_in (standing_in at_rest self.now) header p3 }
     {
         if !header.ins_is_valid() {
             return Need::Nothing;
@@ -120,8 +120,8 @@ impl CommandCard<Given> {
     /// - `CardsOwn`: the status is `61XX` or `6CXX`.
     /// - `OutOfMemory`: memory ran out.
     pub fn give(&mut self, bytes: &[u8], status: Status) -> Result<(), GiveFault>
-        ensures prepared { prepared_in (λ s. s) settled self.new
-            ≡ prepared_in (λ s. s) settled self.old }
+        ensures prepared { prepared_in at_rest settled self.new
+            ≡ prepared_in at_rest settled self.old }
         ensures failed { OnErr result (self.new ≡ self.old) }
         ensures done { OnOk result (IsTaken self.old bytes.now status self.new) }
         ensures why { IfErr result (λ f. IsNotTaken self.old bytes.now status f) }
@@ -145,8 +145,8 @@ impl CommandCard<Given> {
     /// and no TPDU is in progress at it (from `header` to `answered`). Otherwise returns `false`,
     /// and nothing has changed.
     pub fn decide(&mut self, to_card: bool) -> bool
-        ensures prepared { prepared_in (λ s. s) settled self.new
-            ≡ prepared_in (λ s. s) settled self.old }
+        ensures prepared { prepared_in at_rest settled self.new
+            ≡ prepared_in at_rest settled self.old }
         ensures when { result ≡ may_decide self.old }
         ensures failed { result ≡ false → self.new ≡ self.old }
         ensures done { result ≡ true → self.new
@@ -163,8 +163,8 @@ impl CommandCard<Given> {
     /// command that is dropped. While a TPDU is in progress at the card (from `header` to
     /// `answered`) nothing changes.
     pub fn take_back(&mut self)
-        ensures prepared { prepared_in (λ s. s) settled self.new
-            ≡ prepared_in (λ s. s) settled self.old }
+        ensures prepared { prepared_in at_rest settled self.new
+            ≡ prepared_in at_rest settled self.old }
         ensures done { self.new ≡ taken_back self.old }
     {
         if is_free(&self.ready) {
@@ -177,21 +177,21 @@ impl CommandCard<Given> {
     ///
     /// # Errors
     /// - `AllocError`: memory ran out, a TPDU is in progress at the card, this is no command, or
-    ///   the response that it needs was not given. Nothing is carried out, and the last response is
-    ///   wiped, as by `forget`.
+    ///   the response that it needs was not given. Nothing is carried out, and the card no longer
+    ///   holds the last response, as after `forget`.
     pub fn respond(
         &mut self,
         header: Header,
         bytes: &[u8],
         le: Option<u16>,
     ) -> Result<(), AllocError>
-        ensures prepared { prepared_in (λ s. s) settled self.new
-            ≡ prepared_in (λ s. s) settled self.old }
+        ensures prepared { prepared_in at_rest settled self.new
+            ≡ prepared_in at_rest settled self.old }
         ensures failed { OnErr result (self.new ≡ forgotten_by self.old) }
         ensures done { OnOk result (RespondsAs
-            (standing_in (λ s. s) self.old)
+            (standing_in at_rest self.old)
             (record { header = header; content = bytes.now; le = le }) self.new.fresh
-            (standing_in (λ s. s) self.new)) }
+            (standing_in at_rest self.new)) }
         ensures whole { OnOk result
             (IsCommand (record { header = header; content = bytes.now; le = le })) }
         ensures free { OnOk result
@@ -214,9 +214,7 @@ impl CommandCard<Given> {
             &mut self.fresh,
         )?;
         self.application.forget_direction();
-        if matches!(self.waiting, Waiting::Nothing) {
-            wipe(&mut self.kept);
-        }
+        wipe_ended(&self.waiting, &mut self.kept);
         Ok(())
     }
 
@@ -228,12 +226,12 @@ impl CommandCard<Given> {
         &self.fresh
     }
 
-    /// Wipes what `response` returns. While a TPDU is in progress at the card (from `header` to
-    /// `answered`) nothing changes.
+    /// Drops what `response` returns. Its bytes are overwritten, which is tested and not proved.
+    /// While a TPDU is in progress at the card (from `header` to `answered`) nothing changes.
     pub fn forget(&mut self)
-        ensures prepared { prepared_in (λ s. s) settled self.new
-            ≡ prepared_in (λ s. s) settled self.old }
-        ensures stands { standing_in (λ s. s) self.new ≡ standing_in (λ s. s) self.old }
+        ensures prepared { prepared_in at_rest settled self.new
+            ≡ prepared_in at_rest settled self.old }
+        ensures stands { standing_in at_rest self.new ≡ standing_in at_rest self.old }
         ensures done { self.new ≡ forgotten_by self.old }
     {
         if matches!(self.ready, Ready::Nothing) {
@@ -257,9 +255,9 @@ fn respond_given(
     ensures failed { OnErr result ((application.new ≡ application.old)
         × (kept.new.items ≡ kept.old.items) × (response.new.items ≡ [])) }
     ensures responds { IfOk result (λ left. Responds takes_data Gives
-        (state_of application.old kept.old.items waiting)
+        (state_of (at_rest application.old) kept.old.items waiting)
         command.now response.new.items
-        (state_of application.new kept.new.items left)) }
+        (state_of (at_rest application.new) kept.new.items left)) }
     ensures under { IfOk result (λ left. (h : Header) → WaitsFor left h → ⊥) }
     ensures short { length response.new.items ≤ may_bring command.now.le + 2 }
 {
@@ -452,13 +450,13 @@ pub fn respond_to(
     le: Option<u16>,
 ) -> Result<(), AllocError>
     ensures stage { end.new.stage ≡ end.old.stage }
-    ensures prepared { prepared_in (λ s. s) settled end.new.card
-        ≡ prepared_in (λ s. s) settled end.old.card }
+    ensures prepared { prepared_in at_rest settled end.new.card
+        ≡ prepared_in at_rest settled end.old.card }
     ensures failed { OnErr result (end.new.card ≡ forgotten_by end.old.card) }
     ensures done { OnOk result (RespondsAs
-        (standing_in (λ s. s) end.old.card)
+        (standing_in at_rest end.old.card)
         (record { header = header; content = bytes.now; le = le }) end.new.card.fresh
-        (standing_in (λ s. s) end.new.card)) }
+        (standing_in at_rest end.new.card)) }
     ensures whole { OnOk result
         (IsCommand (record { header = header; content = bytes.now; le = le })) }
     ensures free { OnOk result ((is_free end.old.card.ready ≡ true)
@@ -468,10 +466,10 @@ pub fn respond_to(
     end.with_card(|card| card.respond(header, bytes, le))
 }
 
-/// Wipes what the card answered to the last whole command (`CommandCard::forget`).
+/// Drops what the card answered to the last whole command (`CommandCard::forget`).
 pub fn forget(end: &mut CardEnd<CommandCard<Given>>)
     ensures stage { end.new.stage ≡ end.old.stage }
-    ensures stands { standing_in (λ s. s) end.new.card ≡ standing_in (λ s. s) end.old.card }
+    ensures stands { standing_in at_rest end.new.card ≡ standing_in at_rest end.old.card }
     ensures done { end.new.card ≡ forgotten_by end.old.card }
 {
     end.with_card(|card| card.forget())

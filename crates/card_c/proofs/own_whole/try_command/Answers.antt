@@ -48,10 +48,10 @@ returns-in-Ok c =
       sym (ap wait_code c.in-Nothing.ensures),
       refl,
       c.hand_over.ensures.stage ∙ c.respond_to.ensures.stage,
-      ap (λ card. card.fresh) c.hand_over.ensures.wiped,
+      ap (λ card. card.fresh) c.hand_over.ensures.emptied,
       mid.card.fresh,
       subst (λ (s : CardState GivenState). Done a.command s)
-          (sym (ap own_card.standing c.hand_over.ensures.wiped)) told,
+          (sym (ap own_card.standing c.hand_over.ensures.emptied)) told,
       c.hand_over.ensures.copied,
       c.hand_over.ensures.counted,
     )))

@@ -1,5 +1,5 @@
 use Rattle.std.proofs.Common.{◌∙◌, subst, sym}
-use Rattle.command_card.specs.Given.{Answers, settled, takes_data}
+use Rattle.command_card.specs.Given.{Answers, at_rest, settled, takes_data}
 use Rattle.command_card.specs.View.{IsReady}
 use Rattle.command_card.proofs.AnswerLemmas.{is_nothing}
 use Rattle.command_card.proofs.own.CommandCard+Given.take_back.Goals as goal
@@ -9,8 +9,8 @@ invariant_of-self c =
     let (ready, waits, leaves, wiped) = c.self.invariant in let inside = c.self.inside in
     let app = c.drop_response.new.self in
     let none = is_nothing inside.ready (sym c.is_free.ensures ∙ c.if-is_free.true) in (
-      subst (λ r. IsReady takes_data Answers app (settled app) inside.kept.items inside.fresh.items
-          inside.waiting r) (sym none) tt,
+      subst (λ r. IsReady takes_data Answers (at_rest app) (settled app) inside.kept.items
+          inside.fresh.items inside.waiting r) (sym none) tt,
       waits,
       leaves,
       wiped,

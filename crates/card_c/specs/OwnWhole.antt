@@ -6,6 +6,7 @@ use Rattle.apdu_core.specs.CommandBytes.{Command, IsCommand, command_bytes}
 use Rattle.t0_core.specs.CardSide.{EndOf}
 use Rattle.t0_core.specs.CardTpdu.{rests}
 use Rattle.t0_core.specs.TpduBytes.{Asked, asked_in}
+use Rattle.command_card.specs.declared.own.Wanted.TheVariants as wanted
 use Rattle.command_card.specs.Wanted.{RespondsAs, forgotten_by, wanted_by, wanted_for}
 use Rattle.card_c.specs.declared.card_side.CardSide.{CardSide}
 use Rattle.card_c.specs.declared.card_side.CardSide.TheVariants.{Own}
@@ -17,19 +18,21 @@ use Rattle.card_c.specs.declared.own_whole.Went.TheVariants.{Waits, Refused, Ove
 use Rattle.card_c.specs.Codes.{gt_ok, gt_state, gt_memory, gt_buffer, command_code}
 use Rattle.card_c.specs.Copying.{IsCopied}
 use Rattle.card_c.specs.ExchangeCalls.{AreNone}
-use Rattle.card_c.specs.OwnCalls.{IsEndWith, OwnCard, OwnDriven, own_card, wait_code}
+use Rattle.card_c.specs.OwnCalls.{IsEndWith, OwnCard, OwnDriven, own_card, wait_code, wanted_at}
 use Rattle.card_c.specs.WholeCalls.{IsCarriedOut, IsRefusal, RefusesLength, data_room, longest_answer, longest_response}
 
 -- nothing is written
 abbrev pub Unwritten : List ℕ → ℕ → List ℕ → ℕ → Type 0
 Unwritten room len room' len' = (room' ≡ room) × (len' ≡ len)
 
--- These bytes at the end and its plans. They are refused; or they are a TPDU that waits for the
--- application; or they are one that is carried out. Only then something changes.
+-- These bytes at the end and its plans. They are refused, for memory only if nothing is wanted; or
+-- they are a TPDU that waits for the application; or they are one that is carried out. Only then
+-- something changes.
 abbrev pub TriesTpdu : List ℕ → List ℕ → ℕ → List ℕ → ℕ → OwnDriven → Went → OwnDriven → Type 0
 TriesTpdu tpdu room len room' len' s went t =
-    ((code : ℤ) × IsRefusal tpdu s.0.stage room code × (went ≡ Refused code) × (t ≡ s)
-    × Unwritten room len room' len')
+    ((code : ℤ) × IsRefusal tpdu s.0.stage room code
+    × (code ≡ gt_memory → wanted_at s.0.card (asked_in tpdu) ≡ wanted.Nothing)
+    × (went ≡ Refused code) × (t ≡ s) × Unwritten room len room' len')
     ⊎ ((code : ℤ) × (asked : Asked) × (rests s.0.stage ≡ true) × (asked_in tpdu ≡ Some asked)
     × (longest_answer asked ≤ length room)
     × (wait_code (wanted_by s.0.card asked.header asked.p3 asked.content) ≡ Some code)

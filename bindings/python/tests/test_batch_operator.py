@@ -1,7 +1,10 @@
 """Tests what an operator sees of a batch: lines, a bar, dialogues without values, reports, and what
 a card in doubt holds."""
 
+import argparse
+import contextlib
 import csv
+import io
 import os
 import pty
 import re
@@ -201,13 +204,19 @@ def test_a_bar_counts_the_rows_of_its_run_for_the_rate(tmp_path):
     terminal.run.kill()
 
 
-def test_a_part_without_a_row_has_nothing_to_do(tmp_path):
-    """Also on a terminal, whose bar has no rate then."""
+def test_a_part_without_a_row_has_nothing_to_do(tmp_path, monkeypatch):
+    """And a bar on a terminal."""
     room = Room(tmp_path, 3)
-    for words in (["--new", "--part=5/5"], []):
-        terminal = Terminal(room, *words)
-        text = terminal.read()
-        assert text.endswith("0 of 0 rows done, 0 to decide\r\n") and terminal.run.wait(60) == 0
+    wanted = "0 of 0 rows done, 0 to decide\n"
+    assert room.run("--part=5/5")[:2] == (0, room.run()[1]) and room.run()[1].endswith(wanted)
+    from galliumtoad.batch import desk
+
+    shown = io.StringIO()
+    monkeypatch.setattr(shown, "isatty", lambda: True, raising=False)
+    given = argparse.Namespace(go=True, stop_after=1, reader=[], report=None)
+    with contextlib.redirect_stdout(shown):
+        desk.Desk([], room.opened(3), given)._turn()
+    assert shown.getvalue() == f"\r\x1b[K[{'-' * 20}] 0 of 0 rows, 0 a minute"
 
 
 def test_an_interrupt_before_a_card_is_told_in_a_line(tmp_path):

@@ -1,6 +1,7 @@
 """Tests the program `galliumtoad.simulate`: tables, a pseudo terminal, a tty, and vpcd, whose part
 a socket plays here."""
 
+import io
 import os
 import pty
 import random
@@ -27,14 +28,22 @@ SELECT = bytes.fromhex(f"00A4040007{AID}")
 
 
 @pytest.fixture
-def at_pty(tmp_path):
+def files(tmp_path):
+    """Writes a table and faults. Returns the words that name them."""
+    def written(table=TABLE, faults=""):
+        (tmp_path / "table").write_bytes(table.encode())
+        (tmp_path / "faults").write_bytes(faults.encode())
+        return ["--table", str(tmp_path / "table"), "--faults", str(tmp_path / "faults")]
+
+    return written
+
+
+@pytest.fixture
+def at_pty(files):
     made = []
 
     def start(table=TABLE, faults="", words=()):
-        (tmp_path / "table").write_text(table)
-        (tmp_path / "faults").write_text(faults)
-        files = ["--table", tmp_path / "table", "--faults", tmp_path / "faults"]
-        made.append(AtPty(*files, *words))
+        made.append(AtPty(*files(table, faults), *words))
         return made[-1]
 
     yield start
@@ -125,13 +134,12 @@ def test_silence_until_the_next_reset(at_pty, fault):
         card.close()
 
 
-def test_a_tty(tmp_path):
+def test_a_tty(files):
     """The other end of a pseudo terminal stands for the terminal of a tty. If that closes, the
     program ends."""
     ours, theirs = pty.openpty()
     tty.setraw(theirs)
-    (tmp_path / "table").write_text(TABLE)
-    words = ["--table", str(tmp_path / "table"), "--tty", os.ttyname(theirs), "--baud", "19200"]
+    words = [*files(), "--tty", os.ttyname(theirs), "--baud", "19200"]
     program = subprocess.Popen(
         [sys.executable, "-m", "galliumtoad.simulate", *words],
         env={**os.environ, "PYTHONPATH": SOURCE},
@@ -244,15 +252,12 @@ def test_a_reset_by_a_fault_at_vpcd(vpcd):
     assert answers == ["610b", "6985", "610b"] and len(it.struck) == 1
 
 
-def test_the_seed(tmp_path, monkeypatch):
+def test_the_seed(files, monkeypatch):
     """It is that of the faults, and 0 if none is given."""
-    (tmp_path / "table").write_text(TABLE)
-    (tmp_path / "faults").write_text("p 0.5, mute")
     found = []
     monkeypatch.setattr(simulate, "serve_pty", lambda it, *_: found.append(it.faults.chance()))
-    words = ["--pty", "--table", str(tmp_path / "table"), "--faults", str(tmp_path / "faults")]
     for seed in (["--seed", "7"], []):
-        assert main([*words, *seed]) == 0
+        assert main(["--pty", *files(faults="p 0.5, mute"), *seed]) == 0
     assert found == [random.Random(7).random(), random.Random(0).random()]
 
 
@@ -291,14 +296,19 @@ def test_an_object_that_is_there_is_replaced_and_unlocked(tmp_path):
     assert found == [(0x5F20, b"", False), (0x50, b"B", True)]
 
 
-def test_files_of_another_system(tmp_path, monkeypatch):
+def test_a_name_that_the_output_lacks_is_no_end_of_the_line(monkeypatch):
+    """As that of a file of faults."""
+    monkeypatch.setattr(sys, "stdout", io.TextIOWrapper(io.BytesIO(), "ascii"))
+    with pytest.raises(Mistake, match="^standard output: 'ascii' codec can't encode"):
+        Simulator(Card({bytes(5): {}})).tell("fault at command 1: f\u00fcr:1: ..")
+
+
+def test_files_of_another_system(files, monkeypatch):
     """CR before LF. A byte order mark may precede faults; no line of a script begins with one."""
-    (tmp_path / "table").write_bytes(TABLE.replace("\n", "\r\n").encode())
-    (tmp_path / "faults").write_bytes("\uFEFFcommand 1, mute\r\nafter 2, mute\r\n".encode())
+    table, faults = TABLE, "\uFEFFcommand 1, mute\nafter 2, mute\n"
     found = []
     monkeypatch.setattr(simulate, "serve_pty", lambda it, *_: found.append(it))
-    words = ["--table", str(tmp_path / "table"), "--faults", str(tmp_path / "faults")]
-    assert main([*words, "--pty"]) == 0
+    assert main([*files(*(it.replace("\n", "\r\n") for it in (table, faults))), "--pty"]) == 0
     assert [it.values for it in found[0].faults.all] == [[], []]
 
 
@@ -324,13 +334,10 @@ def test_the_program_ends_with_the_reader_of_its_output(at_pty, words):
      (["--pty"], "nonsense", "faults:1: not WHEN, WHAT of a fault: nonsense\nWHEN is one of: comm"),
      (["--pty"], "after 1, nonsense", "after 1, nonsense\nWHAT is one of: ")],
 )
-def test_errors_before_anything_runs(tmp_path, capsys, monkeypatch, words, faults, text):
+def test_errors_before_anything_runs(files, capsys, monkeypatch, words, faults, text):
     monkeypatch.setattr(simulate.time, "sleep", lambda _: pytest.fail("it serves a line"))
     monkeypatch.setattr(simulate, "connected", lambda _: pytest.fail("it serves vpcd"))
-    (tmp_path / "table").write_text(TABLE)
-    (tmp_path / "faults").write_text(faults)
-    files = ["--table", str(tmp_path / "table"), "--faults", str(tmp_path / "faults")]
-    assert main([*files, *words]) == 2
+    assert main([*files(faults=faults), *words]) == 2
     out, error = capsys.readouterr()
     assert text in error and out == ""
 

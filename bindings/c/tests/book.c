@@ -1,18 +1,18 @@
-/* Runs the book of examples: each play by characters and by buffers, the characters to a card
- * alone, and the dialogues of a terminal at T=1. What they print is stored beside them. The crate
- * for Rust and the package for Python run the plays by TPDUs, commands and blocks, and in a
- * session, over the same archive. */
+/* Runs the book of examples: each script by every way from a terminal to a card and in a session,
+ * the characters to a card alone, and the dialogues of a terminal at T=1. What they print is stored
+ * beside them. */
 #include "galliumtoad.h"
 #include "check.h"
 
 #include <stdlib.h>
 
-enum { BY_CHARACTERS, BY_BUFFERS, WAYS };
-enum { TEXT = 1 << 18, ROOM = 40000 };
+enum { BY_CHARACTERS, BY_BUFFERS, BY_TPDUS, BY_COMMANDS, BY_BLOCKS, IN_SESSION, WAYS };
+enum { TEXT = 1 << 18, ROOM = 40000, PLANS = 16 };
 
 static int way;
 static gt_terminal terminal;
 static gt_card card;
+static gt_session session;
 static gt_t1 end;
 static uint8_t value[ROOM], data[ROOM];
 
@@ -94,15 +94,19 @@ static void say_answer(uint16_t status, size_t n) {
 }
 
 static void say_table(void) {
+    const bool joined = way == IN_SESSION;
     uint8_t aid[GT_AID_LIMIT];
     char line[16];
     size_t app, entry, n = 0;
     uint32_t tag;
     int32_t locked;
-    for (app = 0; gt_card_app_at(&card, app, aid, &n) == GT_OK; app++) {
+    for (app = 0; (joined ? gt_session_app_at(&session, app, aid, &n)
+                          : gt_card_app_at(&card, app, aid, &n)) == GT_OK; app++) {
         say_bytes("app ", aid, n, "\n");
         for (entry = 0;
-             gt_card_entry_at(&card, app, entry, &tag, &locked, data, ROOM, &n) == GT_OK; entry++) {
+             (joined ? gt_session_entry_at(&session, app, entry, &tag, &locked, data, ROOM, &n)
+                     : gt_card_entry_at(&card, app, entry, &tag, &locked, data, ROOM, &n)) == GT_OK;
+             entry++) {
             snprintf(line, sizeof line, "  %X %s", (unsigned)tag, n > 0 ? "" : "-");
             say_bytes(line, data, n, locked ? " locked\n" : "\n");
         }
@@ -155,6 +159,48 @@ static void by_buffers(void) {
     }
 }
 
+/* One buffer has the TPDU or command, and its answer. */
+static void as_a_whole(void) {
+    uint8_t both[GT_APDU_LIMIT];
+    size_t n, most;
+    if (way == BY_TPDUS) {
+        while (failed == 0 && gt_terminal_tpdu(&terminal, both, &n, &most) == GT_OK) {
+            CHECK(gt_card_tpdu(&card, both, n, both, most + 2, &n), GT_OK);
+            CHECK(gt_terminal_answered(&terminal, both, n), GT_OK);
+        }
+        return;
+    }
+    while (failed == 0 && gt_terminal_apdu(&terminal, both, &n, &most) == GT_OK) {
+        CHECK(gt_card_apdu(&card, both, n, both, most + 2, &n), GT_OK);
+        CHECK(gt_terminal_responded(&terminal, both, n), GT_OK);
+    }
+}
+
+/* At T=1. Of the blocks to the card the second of each five is lost, and the fifth is damaged. */
+static void by_blocks(void) {
+    uint8_t bytes[GT_APDU_LIMIT], waits;
+    size_t n, most, taken = 0;
+    unsigned blocks = 0;
+    while (failed == 0 && gt_terminal_apdu(&terminal, bytes, &n, &most) == GT_OK) {
+        CHECK(gt_t1_begin(&end, bytes, n), GT_OK);
+        while (failed == 0 && gt_t1_send_bytes(&end, bytes, sizeof bytes, &n, &waits) == GT_OK) {
+            blocks++;
+            CHECK(blocks % 5 == 2 ? gt_card_t1_missed(&card)
+                  : blocks % 5 == 0 ? gt_card_t1_damaged(&card)
+                  : gt_card_t1_receive_bytes(&card, bytes, n, &taken), GT_SENDS);
+            CHECK(gt_card_t1_send_bytes(&card, bytes, sizeof bytes, &n), GT_OK);
+            CHECK(gt_t1_receive_bytes(&end, bytes, n, &taken), GT_SENDS);
+            CHECK(taken, n);
+        }
+        CHECK(gt_t1_response(&end, data, ROOM, &n), GT_OK);
+        CHECK(gt_terminal_responded(&terminal, data, n), GT_OK);
+    }
+}
+
+static void (*const CARRY[])(void) = {
+    by_characters, by_buffers, as_a_whole, as_a_whole, by_blocks
+};
+
 /* Begins the operation of a line at the terminal. */
 static int32_t begin(char *words[3]) {
     const size_t n = bytes_of(words[is(words[0], "put") ? 2 : 1]);
@@ -166,57 +212,115 @@ static int32_t begin(char *words[3]) {
 
 /* ---- Each script ----------------------------------------------------------------------------- */
 
+/* Carries out the operation of a line in the session. */
+static int32_t operate(char *words[3], uint16_t *status, size_t *len) {
+    const size_t n = bytes_of(words[is(words[0], "put") ? 2 : 1]);
+    *len = 0;
+    if (is(words[0], "select"))
+        return gt_session_select(&session, value, n, status, data, ROOM, len);
+    if (is(words[0], "get"))
+        return gt_session_get(&session, number(words[1]), status, data, ROOM, len);
+    if (is(words[0], "put"))
+        return gt_session_put(&session, number(words[1]), value, n, status);
+    return gt_session_send(&session, value, n, status, data, ROOM, len);
+}
+
+/* Prints a line for each turn of an end in the last operation. */
+static void say_turns(void) {
+    static gt_character line[ROOM];
+    uint8_t from = GT_CARD + 1;
+    size_t i, n = 0;
+    CHECK(gt_session_heard(&session, line, ROOM, &n), GT_OK);
+    for (i = 0; i < n; i++) {
+        if (line[i].from != from) {
+            if (i > 0) say("\n");
+            from = line[i].from;
+            say(from == GT_CARD ? "< " : "> ");
+        }
+        say_bytes("", &line[i].byte, 1, "");
+    }
+    say("\n");
+}
+
+static void start(void) {
+    CHECK(gt_card_finish(&card), GT_OK);
+    if (way == IN_SESSION) {
+        CHECK(gt_session_start(&session, &card), GT_OK);
+        CHECK(gt_session_listen(&session), GT_OK);
+        return;
+    }
+    CHECK(gt_terminal_new(&terminal), GT_OK);
+    if (way != BY_BLOCKS) return;
+    CHECK(gt_card_t1_begin(&card), GT_OK);
+    CHECK(gt_t1_new(&end, GT_LRC, 32, GT_T1_TRIES, GT_T1_EXTENSIONS, GT_ANSWER_LIMIT), GT_OK);
+}
+
 static void reset(void) {
-    CHECK(gt_card_reset(&card), GT_OK);
+    CHECK(way == IN_SESSION ? gt_session_reset(&session) : gt_card_reset(&card), GT_OK);
     say("reset\n");
+    if (way != BY_BLOCKS) return;
+    CHECK(gt_card_t1_begin(&card), GT_OK);
+    CHECK(gt_t1_reset(&end), GT_OK);
 }
 
 /* Whether a chain is pending at the card: the terminal does not know. */
 static bool is_busy;
 
-/* Carries out the operation of a line. */
-static void run(char *words[3]) {
+/* Carries out the operation of a line. The session alone has the plans of the lines before it. */
+static void run(char *words[3], char *plans[][2], size_t count) {
     const bool is_send = is(words[0], "send"), begins = is_send && words[1][0] == '1';
     uint16_t status = 0;
-    size_t n = 0;
+    size_t n = 0, i;
+    if (way == IN_SESSION) {
+        CHECK(gt_session_idle(&session), !is_busy);
+        for (i = 0; i < count && (is_send || !is_busy); i++)
+            CHECK(gt_session_plan(&session, plans[i][0], (uint16_t)atoi(plans[i][1])), GT_OK);
+        CHECK(operate(words, &status, &n), is_busy && !is_send ? GT_BUSY : GT_OK);
+        if (is_send || !is_busy) say_turns();
+    } else if (is_send || !is_busy) {
+        CHECK(begin(words), GT_OK);
+        CARRY[way]();
+        CHECK(gt_terminal_answer(&terminal, &status, data, ROOM, &n), GT_OK);
+    }
     if (is_busy && !is_send) {
         say("! card busy\n");
         return;
     }
-    CHECK(begin(words), GT_OK);
-    if (way == BY_CHARACTERS) by_characters();
-    else by_buffers();
-    CHECK(gt_terminal_answer(&terminal, &status, data, ROOM, &n), GT_OK);
     say_answer(status, n);
     is_busy = begins && status == 0x9000;
 }
 
-/* Plans change no answer, so they are left out. */
 static void play(const char *name) {
-    char *at = script, *words[3];
+    char *at = script, *words[3], *plans[PLANS][2];
+    size_t count = 0;
     bool has_started = false;
     read_text(name, "play", "#", script);
-    read_text(name, "out", "<>", wanted);
+    read_text(name, "out", way == IN_SESSION ? "" : "<>", wanted);
     printed_n = 0;
     is_busy = false;
     CHECK(gt_card_new(&card), GT_OK);
-    CHECK(gt_terminal_new(&terminal), GT_OK);
     while (next_line(&at, words)) {
-        if (is(words[0], "plan") || is_built(words)) continue;
-        if (!has_started) CHECK(gt_card_finish(&card), GT_OK);
+        if (is_built(words)) continue;
+        if (!has_started) start();
         has_started = true;
-        if (is(words[0], "reset")) {
+        if (is(words[0], "plan") && count < PLANS) {
+            words[1] += is(words[1], "-");
+            memcpy(plans[count++], words + 1, sizeof *plans);
+        } else if (is(words[0], "reset")) {
             reset();
             is_busy = false;
         } else if (is(words[0], "table")) {
             say_table();
         } else {
-            run(words);
+            run(words, plans, count);
+            count = 0;
         }
     }
     is_printed(name);
     gt_terminal_free(&terminal);
     gt_card_free(&card);
+    gt_session_free(&session);
+    gt_t1_free(&end);
 }
 
 /* ---- A card alone, and a terminal at T=1 ----------------------------------------------------- */

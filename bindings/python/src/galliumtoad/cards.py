@@ -31,31 +31,25 @@ WAY, RESPONSE = "(to|from)-card", f"(?:((?:[0-9A-F]{{2}}){{1,4096}}) )?({STATUS}
 def read_table(path: str) -> tuple[Card, bytes]:
     """Reads the lines `app`, `object`, `locked` and `atr` of a file. Returns the card and its
     answer to reset. Raises `Mistake`."""
-    tables, locked = dict[bytes, dict[int, bytes]](), set[tuple[bytes, int]]()
-    atr, where = b"", path
-    try:
-        for line, text in enumerate(Path(path).read_bytes().decode("latin-1").split("\n"), 1):
-            where = f"{path}: line {line}"
-            words = [it for it in text.removesuffix("\r").split(" ") if it]
-            if not words or text[0] == "#":
-                continue
-            kind, given = words[0], [unhexlify("" if it == "-" else it) for it in words[1:]]
-            if (kind, len(given)) == ("app", 1) and given[0] not in tables:
-                tables[given[0]] = {}
-            elif (kind, len(given)) == ("atr", 1) and given[0] and not atr:
-                [atr] = given
-            elif kind in ("object", "locked") and len(given) == 2 and tables:
-                aid, tag = [*tables][-1], int.from_bytes(given[0], "big")
-                if given[0][:1] == b"\0":
-                    raise ValueError("a tag has no 00 in front")
-                tables[aid][tag] = given[1]
+    tables, locked, atr = dict[bytes, dict[int, bytes]](), set[tuple[bytes, int]](), b""
+    lines = mistakes(path)(Path(path).read_bytes)().decode("latin-1").split("\n")
+    for line, text in enumerate(lines, 1):
+        plain = "" if text[:1] == "#" else text.removesuffix("\r")
+        kind, *given = [*filter(None, plain.split(" "))] or [""]
+        with mistakes(f"{path}: line {line}", ValueError, Error):
+            data = [unhexlify("" if it == "-" else it) for it in given]
+            if (kind, len(data)) == ("app", 1) and data[0] not in tables:
+                tables[data[0]] = {}
+            elif (kind, len(data)) == ("atr", 1) and data[0] and not atr:
+                [atr] = data
+            elif kind in ("object", "locked") and len(data) == 2 and data[0][:1] > b"\0" and tables:
+                aid, tag = [*tables][-1], int.from_bytes(data[0], "big")
+                tables[aid][tag] = data[1]
                 (locked.add if kind == "locked" else locked.discard)((aid, tag))
-            else:
+            elif kind:
                 raise ValueError("not a line of a table")
             Card(tables, locked)  # refuses what this line adds
-        return Card(tables, locked), atr or LEAST_ATR
-    except (OSError, ValueError, Error) as why:
-        raise Mistake(f"{where}: {why}") from None
+    return Card(tables, locked), atr or LEAST_ATR
 
 
 def status_of(digits: str) -> int:

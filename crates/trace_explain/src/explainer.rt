@@ -30,6 +30,7 @@ use crate::write::layout::Layout;
 use crate::write::notes::tell_passed;
 use crate::write::teller::Teller;
 use std::alloc::{AllocError, Global};
+use std::mem;
 use t0_core::End;
 
 /// Explains the lines of a trace, one by one.
@@ -49,6 +50,8 @@ pub struct Explainer {
     log: Log,
     /// What prints the explanation.
     pub teller: Teller,
+    /// An empty list, whose memory the entries of the next line of a log take.
+    entries: Vec<Entry>,
 }
 
 impl Explainer {
@@ -82,6 +85,7 @@ impl Explainer {
             listener: Listener::new(alloc),
             log: Log::new(alloc),
             teller: Teller::new(alloc, layout, title, mask),
+            entries: Vec::new(alloc),
         }
     }
 
@@ -148,7 +152,7 @@ impl Explainer {
             }
             Entry::Reset => Ok(self.reset()?),
             Entry::Note => Ok(self.teller.note(line)?),
-            of_log => Ok(self.teller.tell_logged(&[of_log])?),
+            of_log => Ok(self.teller.tell_logged(&of_log)?),
         }
     }
 
@@ -377,10 +381,11 @@ impl Explainer {
         ensures counts { OnOk result (self.new.line ≡ self.old.line) }
         ensures of_lines { IfErr result IsOfLines }
     {
-        let mut entries = Vec::new(self.alloc);
+        let mut entries = mem::replace(&mut self.entries, Vec::new(self.alloc));
         let taken = self.log.take(&self.reading.rows, line, &mut entries);
         self.has_characters = self.has_characters || self.log.has_begun();
-        for entry in entries {
+        for place in &mut entries {
+            let entry = mem::replace(place, Entry::Note);
             if let Entry::Pair(command, answer) = &entry
                 && are_characters(command.as_slice(), answer.as_slice())
             {
@@ -388,6 +393,8 @@ impl Explainer {
             }
             self.take(entry, line)?;
         }
+        entries.clear();
+        self.entries = entries;
         taken.map_err(|why| refused(self.line, why))
     }
 
@@ -441,7 +448,9 @@ impl Explainer {
         if self.reading.of_tpdus {
             let mut entries = Vec::new(self.alloc);
             self.log.end(&mut entries)?;
-            self.teller.tell_logged(entries.as_slice())?;
+            for entry in &entries {
+                self.teller.tell_logged(entry)?;
+            }
             return self.teller.end(&self.preface, &mut self.listener);
         }
         tell_passed(self.resuming.end(), &mut self.teller.output.page);

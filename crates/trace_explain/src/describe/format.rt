@@ -149,14 +149,20 @@ fn push_binary(text: &mut Sheet, value: &[u8]) {
 
 /// Adds decimal digits, if at least one `F` follows them.
 fn push_padded(text: &mut Sheet, value: &[u8]) {
-    let mut digits = text.empty();
-    digits.push_hex(value);
-    let digits = digits.as_str();
-    let number = digits.trim_end_matches('F');
-    let is_well = !number.is_empty() && number.len() < digits.len();
-    if is_well && number.as_bytes().iter().all(|digit| *digit <= b'9') {
+    let padding = value.iter().rev().take_while(|byte| **byte == 0xFF).count();
+    let number = &value[..value.len().saturating_sub(padding)];
+    let (pairs, last) = match number {
+        [pairs @ .., last] if last & 0x0F == 0x0F => (pairs, Some(last >> 4)),
+        _ => (number, None),
+    };
+    let is_well = !number.is_empty() && (padding > 0 || last.is_some());
+    let are_digits = pairs.iter().all(|byte| decimal(&[*byte]).is_some());
+    if is_well && are_digits && last.is_none_or(|digit| digit <= 9) {
         separate(text, " ");
-        text.push_str(number);
+        text.push_hex(pairs);
+        if let Some(digit) = last {
+            text.push_number(u64::from(digit));
+        }
     }
 }
 

@@ -19,7 +19,11 @@ pub fn is_well(header: Header, status: Status) -> bool {
 
 /// Adds the meaning of the status of a command.
 pub fn push_meaning(text: &mut Sheet, header: Header, status: Status) {
-    let Some(meaning) = meaning_of(header, status) else {
+    let found = match MEANINGS.get(WELL) {
+        Some(well) if status.is_ok() && well.first == 0x9000 => return text.push_str(well.words),
+        _ => Meaning::find(&MEANINGS, header.cla, header.ins, status),
+    };
+    let Some(meaning) = found else {
         return;
     };
     match meaning.words.split_once('X') {
@@ -29,13 +33,5 @@ pub fn push_meaning(text: &mut Sheet, header: Header, status: Status) {
             write!(text, "{before}{number}{after}");
         }
         None => text.push_str(meaning.words),
-    }
-}
-
-/// The meaning of the status of a command.
-fn meaning_of(header: Header, status: Status) -> Option<Meaning> {
-    match MEANINGS.get(WELL) {
-        Some(well) if status.is_ok() && well.first == 0x9000 => Some(*well),
-        _ => Meaning::find(&MEANINGS, header.cla, header.ins, status),
     }
 }

@@ -2,6 +2,7 @@
 
 use crate::follow::links::Link;
 use apdu_core::Header;
+use arrayvec::ArrayVec;
 use std::alloc::{AllocError, Global};
 
 /// A value of this size or more is not shown whole (profile): no hostile trace fills memory.
@@ -21,7 +22,7 @@ const PROPRIETARY: u8 = 0x80;
 pub struct PendingChain {
     pending: Option<Header>,
     /// Dropped chains, each until a command like its last piece follows.
-    dropped: [Option<Header>; DROPPED],
+    dropped: ArrayVec<Option<Header>, DROPPED>,
     /// Whether another chain was dropped, so that any last piece may be its own.
     has_forgotten: bool,
     pieces: u64,
@@ -36,7 +37,7 @@ impl PendingChain {
     pub fn new(alloc: Global) -> PendingChain {
         PendingChain {
             pending: None,
-            dropped: [None; DROPPED],
+            dropped: ArrayVec::new(),
             has_forgotten: false,
             pieces: 0,
             is_whole: true,
@@ -62,22 +63,15 @@ impl PendingChain {
 
     /// Notes a chain that was dropped, by the header of its last piece.
     fn note_dropped(&mut self, last: Header) {
-        for slot in &mut self.dropped {
-            if slot.is_none() || *slot == Some(last) {
-                *slot = Some(last);
-                return;
-            }
+        let last = Some(last);
+        if !self.dropped.contains(&last) && self.dropped.try_push(last).is_err() {
+            self.has_forgotten = true;
         }
-        self.has_forgotten = true;
     }
 
     /// Notes that a command like the last piece of a dropped chain follows.
     fn forget(&mut self, last: Header) {
-        for slot in &mut self.dropped {
-            if *slot == Some(last) {
-                *slot = None;
-            }
-        }
+        self.dropped.retain(|other| *other != Some(last));
     }
 
     /// Notes that characters were missed, so pieces may be missing.

@@ -1,8 +1,7 @@
 //! A command and its answer as one TPDU (ISO/IEC 7816-4, 5.1; ISO/IEC 7816-3, 12).
-ghost use Rattle.std.specs.Prelude.{◌≡◌, [], ◌∷◌, ◌++◌, Some, IfOk, IfErr};
+ghost use Rattle.std.specs.Prelude.{◌≡◌, [], ◌∷◌, ◌++◌, Some, IfOk, IfErr, OnOk};
 ghost use Rattle.trace_explain.specs.Pairs.{Command, IsBadCommand, IsBadPair, IsBadRest, IsCommand, IsPair, ReportsPair, beside, command_in, is_refusal, moved_of, way_of, with_p3};
 
-use crate::follow::block_row::BlockRows;
 use crate::follow::tally::Tally;
 use crate::follow::tpdu::{Tpdu, are_status};
 use crate::read::digits::push;
@@ -51,20 +50,31 @@ impl From<AllocError> for PairFault {
     }
 }
 
-/// Returns the TPDU of a short command with its answer.
-///
-/// # Errors
-///
-/// - `NoStatus`: the command is valid, and the answer does not end with a status.
-/// - Others as for `tpdu_of_command`.
+/// Returns the TPDU of a short command with its answer. The errors are those of `take_pair`.
 pub fn tpdu_of_pair(alloc: Global, command: &[u8], answer: &[u8]) -> Result<Tpdu, PairFault>
     ensures reports { IfOk result (IsPair command.now answer.now) }
     ensures refused { IfErr result (λ why. IsBadPair why command.now answer.now) }
 {
+    let mut tpdu = Tpdu::new(alloc);
+    take_pair(&mut tpdu, command, answer)?;
+    Ok(tpdu)
+}
+
+/// Makes `tpdu` that of a short command with its answer; its line, mark and blocks stay. After an
+/// error it may be anything.
+///
+/// # Errors
+///
+/// - `NoStatus`: the command is valid, and the answer does not end with a status.
+/// - Others as for `take_command`.
+pub fn take_pair(tpdu: &mut Tpdu, command: &[u8], answer: &[u8]) -> Result<(), PairFault>
+    ensures reports { OnOk result (IsPair command.now answer.now tpdu.new) }
+    ensures refused { IfErr result (λ why. IsBadPair why command.now answer.now) }
+{
     let (brought, status) = answer.split_at(answer.len().saturating_sub(2));
-    let tpdu = tpdu_of(alloc, command, brought, status)?;
+    take(tpdu, command, brought, status)?;
     if are_status(status) {
-        Ok(tpdu)
+        Ok(())
     } else {
         Err(PairFault::NoStatus)
     }
@@ -84,95 +94,90 @@ pub fn are_characters(command: &[u8], answer: &[u8]) -> bool {
     }
 }
 
-/// Returns the TPDU of a short command without an answer. The command is CLA INS P1 P2 and one of
-/// these: nothing (P3 is then `00`); Le; Lc, which is not `00`, and data; Lc, data and Le.
+/// The same for a short command without an answer. The command is CLA INS P1 P2 and one of these:
+/// nothing (P3 is then `00`); Le; Lc, which is not `00`, and data; Lc, data and Le.
 ///
 /// # Errors
 ///
 /// - `Short`, `Extended`, `Length`: the command is anything else.
 /// - `OutOfMemory`: memory ran out.
-pub fn tpdu_of_command(alloc: Global, command: &[u8]) -> Result<Tpdu, PairFault>
-    ensures reports { IfOk result (IsCommand command.now) }
+pub fn take_command(tpdu: &mut Tpdu, command: &[u8]) -> Result<(), PairFault>
+    ensures reports { OnOk result (IsCommand command.now tpdu.new) }
     ensures refused { IfErr result (λ why. IsBadCommand why command.now) }
 {
-    tpdu_of(alloc, command, &[], &[])
+    take(tpdu, command, &[], &[])
 }
 
-/// Returns the TPDU of a short command with these data of the card and this status.
-fn tpdu_of(alloc: Global, command: &[u8], brought: &[u8], status: &[u8]) -> Result<Tpdu, PairFault>
-    ensures reports { IfOk result (λ t. (c : Command) × (command_in command.now ≡ Some c)
-        × ReportsPair c brought.now status.now t) }
+/// The same for a short command with these data of the card and this status.
+fn take(tpdu: &mut Tpdu, command: &[u8], brought: &[u8], status: &[u8]) -> Result<(), PairFault>
+    ensures reports { OnOk result ((c : Command) × (command_in command.now ≡ Some c)
+        × ReportsPair c brought.now status.now tpdu.new) }
     ensures refused { IfErr result (λ why. IsBadCommand why command.now) }
 {
     if command.len() < 4 {
         return Err(PairFault::Short);
     }
     if command.len() == 4 {
-        return Ok(whole(alloc, command, 0, &[], None, brought, status)?);
+        return Ok(fill(tpdu, command, 0, &[], None, brought, status)?);
     }
     if command.len() > 6 && command[4] == 0 {
         return Err(PairFault::Extended);
     }
     let (header, _) = command.split_at(4);
     let (_, rest) = command.split_at(5);
-    with_p3(alloc, header, command[4], rest, brought, status)
+    with_p3(tpdu, header, command[4], rest, brought, status)
 }
 
 /// The same with `header` CLA INS P1 P2 and `rest` after P3.
 fn with_p3(
-    alloc: Global,
+    tpdu: &mut Tpdu,
     header: &[u8],
     p3: u8,
     rest: &[u8],
     brought: &[u8],
     status: &[u8],
-) -> Result<Tpdu, PairFault>
-    ensures reports { IfOk result (λ t. (c : Command) × (with_p3 header.now p3 rest.now ≡ Some c)
-        × ReportsPair c brought.now status.now t) }
+) -> Result<(), PairFault>
+    ensures reports { OnOk result ((c : Command) × (with_p3 header.now p3 rest.now ≡ Some c)
+        × ReportsPair c brought.now status.now tpdu.new) }
     ensures refused { IfErr result (λ why. IsBadRest why header.now p3 rest.now) }
 {
     let count = usize::from(p3);
     if rest.is_empty() || (p3 != 0 && rest.len() == count) {
-        Ok(whole(alloc, header, p3, rest, None, brought, status)?)
+        Ok(fill(tpdu, header, p3, rest, None, brought, status)?)
     } else if p3 != 0 && rest.len() == count + 1 {
         let le = Some(rest[count]);
-        Ok(whole(alloc, header, p3, &rest[..count], le, brought, status)?)
+        Ok(fill(tpdu, header, p3, &rest[..count], le, brought, status)?)
     } else {
         Err(PairFault::Length)
     }
 }
 
-/// Returns the TPDU with this header, the terminal's data, Le, the card's data and the status.
-fn whole(
-    alloc: Global,
+/// The same with this header, the terminal's data, Le, the card's data and the status.
+fn fill(
+    tpdu: &mut Tpdu,
     header: &[u8],
     p3: u8,
     sent: &[u8],
     le: Option<u8>,
     brought: &[u8],
     status: &[u8],
-) -> Result<Tpdu, AllocError>
-    ensures { IfOk result (ReportsPair (record {
+) -> Result<(), AllocError>
+    ensures { OnOk result (ReportsPair (record {
       header = header.now ++ p3 ∷ [];
       sent = sent.now;
       le = le;
-    }) brought.now status.now) }
+    }) brought.now status.now tpdu.new) }
 {
     let (way, moved, answer) = parts(sent, brought);
-    let mut header = copied(alloc, header, 1)?;
-    push(&mut header, p3)?;
-    Ok(Tpdu {
-        header,
-        tally: Tally::NONE,
-        way,
-        moved: copied(alloc, moved, 0)?,
-        status: copied(alloc, status, 0)?,
-        le,
-        answer: copied(alloc, answer, 0)?,
-        is_loose: false,
-        line: 0,
-        blocks: BlockRows::new(alloc),
-    })
+    tpdu.tally = Tally::NONE;
+    tpdu.way = way;
+    tpdu.le = le;
+    copy(&mut tpdu.header, header)?;
+    push(&mut tpdu.header, p3)?;
+    copy(&mut tpdu.moved, moved)?;
+    copy(&mut tpdu.status, status)?;
+    copy(&mut tpdu.answer, answer)?;
+    Ok(())
 }
 
 /// Returns which way the data of the TPDU go, these data, and those of the card beside them.
@@ -188,11 +193,10 @@ fn parts<'a>(sent: &'a [u8], brought: &'a [u8]) -> (Option<Direction>, &'a [u8],
     }
 }
 
-/// Returns a copy of the bytes, with room for as many more.
-fn copied(alloc: Global, bytes: &[u8], more: usize) -> Result<Vec<u8>, AllocError>
-    ensures { IfOk result (λ all. all.items ≡ bytes.now) }
+/// Replaces bytes by a copy of others. Returns `AllocError` if memory ran out.
+fn copy(all: &mut Vec<u8>, bytes: &[u8]) -> Result<(), AllocError>
+    ensures { OnOk result (all.new.items ≡ bytes.now) }
 {
-    let mut all = Vec::with_capacity(alloc, bytes.len().saturating_add(more))?;
-    all.extend_from_slice(bytes)?;
-    Ok(all)
+    all.clear();
+    all.extend_from_slice(bytes)
 }

@@ -35,6 +35,10 @@ pub fn spelled(alloc: Global, is_short: bool, digits: &[u8]) -> Result<Vec<u8>, 
     let mut bytes = Vec::with_capacity(alloc, digits.len() / 2)?;
     let mut spot = Spot::Between;
     let mut rest = digits;
+    'pairs: while let Some(byte) = pair_at(spot, rest) {
+        push(&mut bytes, byte)?;
+        (spot, rest) = behind_pair(&rest[2..]);
+    }
     'digits: while !rest.is_empty() {
         if let Some(byte) = pair_at(spot, rest) {
             push(&mut bytes, byte)?;

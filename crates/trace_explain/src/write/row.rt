@@ -16,29 +16,39 @@ const RUN: usize = 16;
 pub fn push_before(sheet: &mut Sheet, side: Side, label: &str)
     ensures { Adds sheet.old (before sheet.old.layout.medium side label.now) sheet.new }
 {
-    let medium = sheet.layout().medium;
-    sheet.push_str(marks(medium, side).0);
+    push_sign(sheet, side);
     sheet.push_str(label);
-    match medium {
+    match sheet.layout().medium {
         Medium::Text => sheet.push_spaces(11usize.saturating_sub(label.len())),
         Medium::Html => sheet.push_str("</b><pre>"),
         Medium::Json => sheet.push_str("\":\""),
     }
 }
 
-/// The text before the label of a row, and the text after its lines.
-pub fn marks(medium: Medium, side: Side) -> (&'static str, &'static str)
-    ensures before { result.0.now ≡ label_before medium side }
-    ensures behind { result.1.now ≡ behind medium side }
+/// Adds what precedes the label of a row.
+fn push_sign(sheet: &mut Sheet, side: Side)
+    ensures { Adds sheet.old (label_before sheet.old.layout.medium side) sheet.new }
 {
-    match (medium, side) {
-        (Medium::Text, Side::Terminal) => ("  > ", "\n"),
-        (Medium::Text, Side::Card) => ("  < ", "\n"),
-        (Medium::Text, Side::Nobody) => ("    ", "\n"),
-        (Medium::Html, Side::Terminal) => ("<div class=\"m t\"><b>", "</pre><i></i></div>\n"),
-        (Medium::Html, Side::Card) => ("<div class=\"m c\"><b>", "</pre><i></i></div>\n"),
-        (Medium::Html, Side::Nobody) => ("<div class=\"m n\"><b>", "</pre></div>\n"),
-        (Medium::Json, _) => (",\"", "\""),
+    match (sheet.layout().medium, side) {
+        (Medium::Text, Side::Terminal) => sheet.push_str("  > "),
+        (Medium::Text, Side::Card) => sheet.push_str("  < "),
+        (Medium::Text, Side::Nobody) => sheet.push_str("    "),
+        (Medium::Html, Side::Terminal) => sheet.push_str("<div class=\"m t\"><b>"),
+        (Medium::Html, Side::Card) => sheet.push_str("<div class=\"m c\"><b>"),
+        (Medium::Html, Side::Nobody) => sheet.push_str("<div class=\"m n\"><b>"),
+        (Medium::Json, _) => sheet.push_str(",\""),
+    }
+}
+
+/// Adds what follows the lines of a row.
+pub fn push_behind(sheet: &mut Sheet, side: Side)
+    ensures { Adds sheet.old (behind sheet.old.layout.medium side) sheet.new }
+{
+    match (sheet.layout().medium, side) {
+        (Medium::Text, _) => sheet.push_str("\n"),
+        (Medium::Html, Side::Terminal | Side::Card) => sheet.push_str("</pre><i></i></div>\n"),
+        (Medium::Html, Side::Nobody) => sheet.push_str("</pre></div>\n"),
+        (Medium::Json, _) => sheet.push_str("\""),
     }
 }
 
@@ -49,7 +59,7 @@ fn push_row(sheet: &mut Sheet, side: Side, label: &str, text: &[u8])
     let medium = sheet.layout().medium;
     push_before(sheet, side, label);
     push_letters(sheet, medium, ROW_INDENT, text);
-    sheet.push_str(marks(medium, side).1);
+    push_behind(sheet, side);
 }
 
 /// Adds each byte as a character. In text, `indent` follows LF. On a page of HTML, `<`, `>` and `&`

@@ -1,12 +1,12 @@
 //! The number, line, header and status of a TPDU.
 ghost use Rattle.std.specs.Prelude.{◌≡◌, ◌++◌, ℕ, List, codes, drop};
 ghost use Rattle.trace_explain.specs.Sheets.{Adds, HasText};
-ghost use Rattle.trace_explain.specs.Written.{before, character_text, header_row, header_text, line_before, line_behind, line_text, named, number_text, status_digits, status_row, title_text, number_before, number_behind, header_field, header_fields, shown_header};
+ghost use Rattle.trace_explain.specs.Written.{before, character_text, header_row, header_text, line_before, line_behind, line_text, named, number_before, number_behind, number_text, status_digits, status_row, title_text, header_field, header_fields, shown_header};
 
 use crate::write::ascii::cut;
 use crate::write::html::{push_box, push_mark};
 use crate::write::layout::{Anchor, Kind, Medium, Side};
-use crate::write::row::{ROW_INDENT, marks, push_before, push_letters};
+use crate::write::row::{ROW_INDENT, push_before, push_behind, push_letters};
 use crate::write::sheet::Sheet;
 
 /// What precedes each further line of a title in text.
@@ -123,7 +123,7 @@ fn push_header_row(sheet: &mut Sheet, is_hidden: bool, header: &[u8])
     } else {
         push_characters(sheet, medium, header);
     }
-    sheet.push_str(marks(medium, Side::Terminal).1);
+    push_behind(sheet, Side::Terminal);
 }
 
 /// Adds the characters of a header.
@@ -174,7 +174,7 @@ pub fn push_status(sheet: &mut Sheet, side: Side, status: &[u8], words: &Sheet)
         push_status_digits(sheet, side, status);
         let (_, letters) = cut(words.as_str().as_bytes(), 1);
         push_letters(sheet, medium, ROW_INDENT, letters);
-        sheet.push_str(marks(medium, side).1);
+        push_behind(sheet, side);
     }
 }
 

@@ -18,7 +18,7 @@ use crate::follow::command::Command;
 use crate::follow::links::Links;
 use crate::follow::listener::{Listener, ListenerFault};
 use crate::follow::opening::{Role, Stage};
-use crate::follow::pair::{PairFault, tpdu_of_command, tpdu_of_pair};
+use crate::follow::pair::{PairFault, take_command, take_pair, tpdu_of_pair};
 use crate::follow::preface::Preface;
 use crate::follow::story::Story;
 use crate::follow::tpdu::{Mark, Tpdu};
@@ -56,6 +56,8 @@ pub struct Teller {
     pub is_led: bool,
     /// Whether the next pair of a log is loose: bytes that are no pair precede it.
     is_loose: bool,
+    /// The last TPDU of a log. The next one takes its memory.
+    spare: Tpdu,
     story: Story,
     /// The command whose TPDUs are written.
     command: Command,
@@ -96,6 +98,7 @@ impl Teller {
             strays: 0,
             is_led: false,
             is_loose: false,
+            spare: Tpdu::new(alloc),
             story: Story::new(alloc),
             command: Command::new(alloc),
             clock: Clock::new(alloc),
@@ -558,27 +561,25 @@ impl Teller {
         }
     }
 
-    /// Writes entries that only a log has. Returns `AllocError` if memory ran out: drop the teller.
-    pub fn tell_logged(&mut self, entries: &[Entry]) -> Result<(), AllocError> {
-        for entry in entries {
-            match entry {
-                Entry::Begins => {
-                    self.clock.count(false);
-                    self.begin_if(true);
-                }
-                Entry::Pair(command, answer) => {
-                    self.clock.count(true);
-                    self.pair(command.as_slice(), Some(answer.as_slice()))?;
-                }
-                Entry::Unanswered(command) => self.pair(command.as_slice(), None)?,
-                Entry::Stray(bytes) => {
-                    self.lose_some();
-                    self.tell_bytes("before a command, from the card:\n", bytes);
-                }
-                Entry::Part(End::Terminal, part) => self.tell_bytes("a part of a command:\n", part),
-                Entry::Part(End::Card, part) => self.tell_bytes("a part of an answer:\n", part),
-                Entry::Characters(..) | Entry::Reset | Entry::Note => {}
+    /// Writes an entry that only a log has. Returns `AllocError` if memory ran out: drop the teller.
+    pub fn tell_logged(&mut self, entry: &Entry) -> Result<(), AllocError> {
+        match entry {
+            Entry::Begins => {
+                self.clock.count(false);
+                self.begin_if(true);
             }
+            Entry::Pair(command, answer) => {
+                self.clock.count(true);
+                self.pair(command.as_slice(), Some(answer.as_slice()))?;
+            }
+            Entry::Unanswered(command) => self.pair(command.as_slice(), None)?,
+            Entry::Stray(bytes) => {
+                self.lose_some();
+                self.tell_bytes("before a command, from the card:\n", bytes);
+            }
+            Entry::Part(End::Terminal, part) => self.tell_bytes("a part of a command:\n", part),
+            Entry::Part(End::Card, part) => self.tell_bytes("a part of an answer:\n", part),
+            Entry::Characters(..) | Entry::Reset | Entry::Note => {}
         }
         self.output.outcome()
     }
@@ -590,12 +591,13 @@ impl Teller {
 
     /// Writes a command with its answer, if any: as a TPDU, or as a protocol error.
     fn pair(&mut self, command: &[u8], answer: Option<&[u8]>) -> Result<(), AllocError> {
+        let mut tpdu = mem::replace(&mut self.spare, Tpdu::new(self.alloc));
         let outcome = match answer {
-            Some(bytes) => tpdu_of_pair(self.alloc, command, bytes),
-            None => tpdu_of_command(self.alloc, command),
+            Some(bytes) => take_pair(&mut tpdu, command, bytes),
+            None => take_command(&mut tpdu, command),
         };
         match outcome {
-            Ok(tpdu) => self.tell_pair(tpdu, answer.is_some()),
+            Ok(()) => self.tell_pair(tpdu, answer.is_some()),
             Err(PairFault::OutOfMemory) => Err(AllocError),
             Err(why) => self.tell_bad(why, command, answer),
         }
@@ -606,6 +608,7 @@ impl Teller {
         tpdu.is_loose = mem::replace(&mut self.is_loose, false);
         tpdu.line = self.began;
         self.tell_one(&tpdu)?;
+        self.spare = tpdu;
         if !is_answered {
             self.lose_some();
         }

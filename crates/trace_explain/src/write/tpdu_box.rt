@@ -61,7 +61,7 @@ pub fn tell_box(
     output.row(Side::Nobody, "file");
     push_time(&mut output.page.lines, clock);
     output.row(Side::Nobody, "time");
-    output.page.lines.push_str(dropped(links.drops_before));
+    push_dropped(&mut output.page.lines, links.drops_before);
     output.row(Side::Nobody, "before");
     push_blocks(&mut output.page.lines, &tpdu.blocks);
     output.row(Side::Nobody, "blocks");
@@ -73,7 +73,7 @@ pub fn tell_box(
     output.row(Side::Terminal, "Le");
     tell_answer(tpdu, links, mask, output);
     tell_status(&outline, status_side(tpdu), status, output);
-    output.page.lines.push_str(dropped(links.drops_after));
+    push_dropped(&mut output.page.lines, links.drops_after);
     output.row(Side::Nobody, "after");
     tell_together(tpdu, links, story.whole(links.whole), mask, output);
     push_box_end(&mut output.sheet);
@@ -117,7 +117,7 @@ fn tell_value(shown: Shown, bytes: &[u8], mask: &Mask, output: &mut Output)
     ensures { PutsBeside shown mask.now.tags.items bytes.now output.old.sheet output.new.sheet }
 {
     output.page.lines.clear();
-    push_shown(&mut output.page.lines, shown, true, bytes, mask);
+    push_shown(&mut output.page, shown, true, bytes, mask);
     push_beside(&mut output.sheet, &output.page.lines);
     output.page.lines.clear();
 }
@@ -224,9 +224,11 @@ fn kind_of(outline: &Outline) -> Kind {
     }
 }
 
-/// The text of the row of a dropped chain, if it is.
-fn dropped(drops: bool) -> &'static str {
-    if drops { "the chain is dropped\n" } else { "" }
+/// Adds the text of the row of a dropped chain, if it is.
+fn push_dropped(lines: &mut Sheet, drops: bool) {
+    if drops {
+        lines.push_str("the chain is dropped\n");
+    }
 }
 
 /// Adds the row of the data: as a tree if they may be objects and are some.
@@ -295,22 +297,22 @@ fn tell_lines(
         output.new.sheet }
 {
     output.page.lines.clear();
-    push_shown(&mut output.page.lines, shown, may_be_objects, bytes, mask);
+    push_shown(&mut output.page, shown, may_be_objects, bytes, mask);
     push_row_of(&mut output.sheet, side, "data", &output.page.lines);
     output.page.lines.clear();
 }
 
-/// Adds the lines of data, as far as they are shown: as a tree if they may be objects and are some,
-/// otherwise as digits with text beside them.
-fn push_shown(lines: &mut Sheet, shown: Shown, may_be_objects: bool, bytes: &[u8], mask: &Mask)
+/// Adds the lines of data to those of the page, as far as they are shown: as a tree if they may be
+/// objects and are some, otherwise as digits with text beside them. The page's text must be empty.
+fn push_shown(page: &mut Page, shown: Shown, may_be_objects: bool, bytes: &[u8], mask: &Mask)
     ensures { PutsLines (ShowsData shown mask.now.tags.items may_be_objects bytes.now)
-        lines.old lines.new }
+        page.old.lines page.new.lines }
 {
     match shown {
-        Shown::Nothing => push_hidden(lines),
-        _ if push_tree(lines, may_be_objects, bytes, mask) => {}
-        Shown::Objects => push_hidden(lines),
-        Shown::All => push_digits(lines, bytes),
+        Shown::Nothing => push_hidden(&mut page.lines),
+        _ if push_tree(page, may_be_objects, bytes, mask) => {}
+        Shown::Objects => push_hidden(&mut page.lines),
+        Shown::All => push_digits(&mut page.lines, bytes),
     }
 }
 
@@ -409,7 +411,7 @@ fn tell_whole(whole: Whole, shown: Shown, bytes: &[u8], mask: &Mask, output: &mu
 {
     output.page.lines.clear();
     phrases::push_whole(&mut output.page.lines, whole, bytes.len() as u64);
-    push_shown(&mut output.page.lines, shown, true, bytes, mask);
+    push_shown(&mut output.page, shown, true, bytes, mask);
     let lines = &output.page.lines;
     push_lines_row(&mut output.sheet, Side::Nobody, "together", lines);
     output.page.lines.clear();

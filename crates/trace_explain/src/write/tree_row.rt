@@ -7,6 +7,7 @@ use crate::describe::format::push_named;
 use crate::describe::mask::Mask;
 use crate::describe::names::Place;
 use crate::write::ascii::{are_printable, cut, is_text, push_content, push_lines};
+use crate::write::page::Page;
 use crate::write::sheet::Sheet;
 use tlv_core::{Obj, Objects, Tag};
 
@@ -18,18 +19,21 @@ const VALUE_TEXT: usize = 15;
 
 /// Adds a line, or more for a long value, for each object of data that may be objects and are some.
 /// Each level is two spaces further in; hidden values are `**`. The name of an object that is not
-/// hidden follows its digits. Returns whether there are any objects.
-pub fn push_tree(lines: &mut Sheet, may_be_objects: bool, bytes: &[u8], mask: &Mask) -> bool
+/// hidden follows its digits; it is made in the page's text, which must be empty. Returns whether
+/// there are any objects.
+pub fn push_tree(page: &mut Page, may_be_objects: bool, bytes: &[u8], mask: &Mask) -> bool
     ensures { PutsAny (IsTree mask.now.tags.items may_be_objects bytes.now) result
-        lines.old lines.new }
+        page.old.lines page.new.lines }
 {
     if !may_be_objects {
         return false;
     }
     match Objects::over(bytes) {
         Ok(objects) => {
-            let mut words = lines.empty();
-            push_objects(lines, objects, mask, Place::TOP, &mut words)
+            let lines = &mut page.lines;
+            let some = push_objects(lines, objects, mask, Place::TOP, &mut page.text);
+            page.text.clear();
+            some
         }
         Err(_) => false,
     }

@@ -3,7 +3,7 @@ use Rattle.std.proofs.Common.{◌≡◌, ℕ, List, [], ◌∷◌, ◌++◌, ◌
 use Rattle.std.proofs.lemmas.List.{length-drop}
 use Rattle.t0_core.specs.declared.end.End.{End}
 use Rattle.t0_core.specs.DialogueLaws.{all_more, flat_map_last}
-use Rattle.t0_core.specs.Front.{Front, In_header, In_body, After_first, fresh}
+use Rattle.t0_core.specs.Front.{Front, In_header, fresh}
 use Rattle.t0_core.specs.History.{Cut_off}
 use Rattle.t0_core.specs.TapSide.{TapStandsAt}
 use Rattle.trace_explain.specs.declared.follow.listener.Listener.{Listener}
@@ -29,11 +29,7 @@ use Rattle.trace_explain.proofs.NotedLemmas.{noted_between, reports_both, size_o
 front_is_fresh : (t : Report) (loose : Mark) (front : Front) → ReportsFront t loose front
     → t ≡ no_report → front ≡ fresh
 front_is_fresh t loose (In_header []) reports none = refl
-front_is_fresh t loose (In_header (b ∷ bytes)) reports none =
-    absurd (omega (arith, size_of none, size_of reports))
-front_is_fresh t loose (In_body b) reports none =
-    absurd (omega (arith, size_of none, size_of reports))
-front_is_fresh t loose (After_first b sw1) reports none =
+front_is_fresh t loose other reports none =
     absurd (omega (arith, size_of none, size_of reports))
 
 -- One more, between two dialogues at T=0.

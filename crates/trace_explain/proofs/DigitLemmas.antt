@@ -65,8 +65,7 @@ pair_spelled Behind high low byte rest may is is_short bytes =
     ∙ ap (λ v. spelled_from is_short bytes (if v then Between else Within high) (low ∷ rest))
     (differs high 44 one refl)
     ∙ within_byte is_short bytes high low byte rest is
-pair_spelled (Within d) high low byte rest may is is_short bytes = absurd (cc)
-pair_spelled Bound high low byte rest may is is_short bytes = absurd (cc)
+pair_spelled other high low byte rest may is is_short bytes = absurd (cc)
 
 -- The first two characters spell a byte, if they are digits.
 pub pair_of : (spot : Spot) (digits : List ℕ) (r : Option ℕ) → begins spot ≡ true
@@ -75,8 +74,7 @@ pub pair_of : (spot : Spot) (digits : List ℕ) (r : Option ℕ) → begins spot
     → IfSome r (λ byte. (1 < length digits) × ((is_short : Bool) (bytes : List ℕ)
     → spelled_from is_short bytes spot digits
     ≡ spelled_from is_short (bytes ++ byte ∷ []) Behind (drop 2 digits)))
-pair_of spot [] r may more is = absurd (omega (arith, more))
-pair_of spot (high ∷ []) r may more is = absurd (omega (arith, more))
 pair_of spot (high ∷ low ∷ rest) None may more is = tt
 pair_of spot (high ∷ low ∷ rest) (Some byte) may more is =
     (more, λ is_short bytes. pair_spelled spot high low byte rest may (sym is) is_short bytes)
+pair_of spot other r may more is = absurd (omega (arith, more))

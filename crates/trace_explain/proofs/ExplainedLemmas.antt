@@ -3,7 +3,7 @@ use Rattle.std.proofs.Common.{◌≡◌, ℕ, List, [], ◌∷◌, ◌++◌, len
 use Rattle.std.proofs.lemmas.Bool.{eqb-true}
 use Rattle.std.proofs.lemmas.List.{nil_from_length, take_more}
 use Rattle.t0_core.specs.declared.end.End.{End}
-use Rattle.t0_core.specs.Front.{Front, In_header, In_body, After_first, front_characters}
+use Rattle.t0_core.specs.Front.{Front, In_header, front_characters}
 use Rattle.t0_core.specs.History.{passed}
 use Rattle.trace_explain.specs.declared.describe.complaint.Complaint.{Complaint}
 use Rattle.trace_explain.specs.declared.explain_fault.ExplainFault.{ExplainFault}
@@ -29,11 +29,6 @@ use Rattle.std.specs.Global.{Vec}
 use Rattle.trace_explain.specs.declared.read.entry.Entry.TheVariants as entry
 use Rattle.trace_explain.proofs.NotedLemmas.{size_of}
 
--- A conclusion from a call that succeeded.
-pub on_ok_too : {T E : Type 0} (r : Result T E) (P Q : Type 0) → OnOk r P → (P → Q) → OnOk r Q
-on_ok_too (Ok x) P Q h next = next h
-on_ok_too (Err e) P Q h next = tt
-
 -- What holds whether it succeeded or not.
 pub ok_too : {T E : Type 0} (r : Result T E) (P : Type 0) → P → OnOk r P
 ok_too (Ok x) P h = h
@@ -55,9 +50,7 @@ explains_from begins h =
 pub front_of_none : (t : Report) (loose : Mark) (front : Front) → ReportsFront t loose front
     → length t.header ≡ 0 → passed (front_characters front) ≡ []
 front_of_none t loose (In_header bytes) reports none = grind (arith, nil_from_length, size_of)
-front_of_none t loose (In_body b) reports none = absurd (omega (arith, none, size_of reports))
-front_of_none t loose (After_first b sw1) reports none =
-    absurd (omega (arith, none, size_of reports))
+front_of_none t loose other reports none = absurd (omega (arith, none, size_of reports))
 
 pub none_on_line : (events : List Event) → map on_line events ≡ [] → events ≡ []
 none_on_line [] is = refl

@@ -1,7 +1,7 @@
 -- The reports of dialogues after one more character or reset.
 use Rattle.std.proofs.Common.{◌≡◌, ◌<◌, ℕ, List, [], ◌∷◌, ◌++◌, ◌==◌, if◌then◌else◌, Option, Some, refl, sym, subst, ◌∙◌, ap, inl, inr, lit<, true, false, append_assoc, append-nil, length, arith, ◌≤◌, slice_index, fold, Bool, None, ◌&&◌, map}
 use Rattle.std.specs.List.{AllByRecursion, flat_map}
-use Rattle.std.proofs.lemmas.Bool.{ne_eqb, eqb-true}
+use Rattle.std.proofs.lemmas.Bool.{and_parts, ne_eqb, eqb-true}
 use Rattle.std.proofs.lemmas.List.{map-append}
 use Rattle.std.proofs.lemmas.List.Sums.{fold-append}
 use Rattle.t0_core.specs.declared.direction.Direction.{Direction}
@@ -37,8 +37,7 @@ use Rattle.t0_core.specs.TapLaws as law
 reports_turned : (t : Report) (loose : Mark) (way : Direction) (front : Front)
     → ReportsFront t loose front → ReportsFront t loose (turned way front)
 reports_turned t loose way (In_header bytes) h = h
-reports_turned t loose way (In_body b) h = h
-reports_turned t loose way (After_first b sw1) h = h
+reports_turned t loose way other h = h
 
 -- One more character.
 in_header : (way : Option Direction) (loose : Mark) (bytes : List ℕ) (c : Character) (new : Front)
@@ -61,11 +60,10 @@ noted_continues t loose front new (heard.SecondStatus said status) c reports goe
 -- The last character.
 noted_ends : (t : Report) (loose : Mark) (front : Front) (d : Dialogue) (h : Heard) (c : Character)
     → ReportsFront t loose front → Ends front c d → Concludes h d → Reports (noted t h c.1) loose d
-noted_ends t loose (In_header bytes) d h c reports ends ends_so = absurd ends
-noted_ends t loose (In_body b) d h c reports ends ends_so = absurd ends
 noted_ends t loose (After_first b sw1) d (heard.SecondStatus said status) c reports ends ends_so =
     grind (arith)
 noted_ends t loose (After_first b sw1) d other c reports ends bad = absurd bad
+noted_ends t loose other d h c reports ends ends_so = absurd ends
 
 -- The mark after one more event.
 mark_last : (events : List Event) (e : Event)
@@ -76,18 +74,14 @@ mark_last events e = fold-append with_event no_mark events (e ∷ [])
 none_carried : (events : List Event) (cs : List Character) → map on_line events ≡ passed cs
     → carried_in (events ++ Reset ∷ []) ≡ []
 none_carried [] cs is = refl
-none_carried (Passed c l ∷ events) [] is = absurd (cc)
+none_carried (e ∷ events) [] is = absurd (cc)
 none_carried (Passed c l ∷ events) (d ∷ cs) is = none_carried events cs (cc)
-none_carried (Reset ∷ events) [] is = absurd (cc)
-none_carried (Reset ∷ events) (d ∷ cs) is = absurd (cc)
-none_carried (Carried t ∷ events) [] is = absurd (cc)
-none_carried (Carried t ∷ events) (d ∷ cs) is = absurd (cc)
+none_carried (other ∷ events) (d ∷ cs) is = absurd (cc)
 
 marked_front : (t : Report) (m n : Mark) (front : Front) → ReportsFront t m front
     → ReportsFront (marked n t) (both_marks m n) front
 marked_front t m n (In_header bytes) h = ap (marked n) h
-marked_front t m n (In_body b) h = ap (marked n) h
-marked_front t m n (After_first b sw1) h = ap (marked n) h
+marked_front t m n other h = ap (marked n) h
 
 -- Which of the two it is.
 makes_no_last : (h : Heard) (front new : Front) (c : Character) → Makes h front c new
@@ -133,12 +127,8 @@ reports_part : (t : Report) (front : Front) (events : List Event)
     → ReportItems ((Cut_off (front_characters front), events) ∷ []) (cut_of t)
 reports_part t (In_header []) events h none = rw (ap (λ (x : Report). x.header) h)
     ([], sym (ap (λ ts. ts ++ []) none), tt)
-reports_part t (In_header (b ∷ bytes)) events h none =
-    rw (cut_some t (omega (arith, size_of h))) ((In_header (b ∷ bytes), refl, h), none, tt)
-reports_part t (In_body b) events h none =
-    rw (cut_some t (omega (arith, size_of h))) ((In_body b, refl, h), none, tt)
-reports_part t (After_first b sw1) events h none =
-    rw (cut_some t (omega (arith, size_of h))) ((After_first b sw1, refl, h), none, tt)
+reports_part t other events h none =
+    rw (cut_some t (omega (arith, size_of h))) ((other, refl, h), none, tt)
 
 -- The front of the tap, with nothing before it.
 abbrev pub alone : (events : List Event) (reports : List Report) (l : Listener)
@@ -310,10 +300,6 @@ hears_reset events reports old new n tap_is is =
     (subst V (sym (mark_last n.last Reset)) n.under_way)
     (none_carried n.last (front_characters n.front) n.last_are)) is
 
-pub both_hold : (a b : Bool) → (a && b) ≡ true → (a ≡ true) × (b ≡ true)
-both_hold true b e = (refl, e)
-both_hold false b e = absurd (let no : false ≡ true = e in cc)
-
 -- With P3 00 no data move to the card.
 from_card : (way : Direction) (segments : List Step) (p3 n : ℕ) → p3 ≡ 0 → n ≡ 2
     → n ≤ all_moves segments (foreseen way p3) → way ≡ FromCard
@@ -354,9 +340,7 @@ nulls_before ins sw1 sw2 (All ∷ s ∷ segments) t h none = absurd (omega (arit
 two_of : (moved : List ℕ) → AreStatus moved
     → (sw1 : ℕ) × (sw2 : ℕ) × (moved ≡ sw1 ∷ sw2 ∷ []) × IsStatusWord (sw1, sw2)
 two_of (sw1 ∷ sw2 ∷ []) h = (sw1, sw2, refl, h)
-two_of [] h = absurd h
-two_of (sw1 ∷ []) h = absurd h
-two_of (sw1 ∷ sw2 ∷ b ∷ rest) h = absurd h
+two_of other h = absurd h
 
 abbrev as_dialogue : Body → ℕ → ℕ → Dialogue
 as_dialogue b sw1 sw2 = record {
@@ -424,11 +408,11 @@ bare_front t loose (In_header bytes) reports front bare status = absurd (rw repo
 bare_front t loose (After_first b sw1) reports front bare status =
     absurd (omega (
       arith,
-      eqb-true (length t.status) 0 (both_hold _ _ (both_hold _ _ bare).0).1,
+      eqb-true (length t.status) 0 (and_parts _ _ (and_parts _ _ bare).0).1,
       ap (λ (x : Report). length x.status) reports,
     ))
 bare_front t loose (In_body b) reports front bare status =
-    let both = both_hold _ _ (both_hold _ _ (both_hold _ _ bare).0).0 in
+    let both = and_parts _ _ (and_parts _ _ (and_parts _ _ bare).0).0 in
     let (sw1, sw2, moved_is, word) = two_of t.moved status in (
       as_dialogue b sw1 sw2,
       bare_body t loose b sw1 sw2 reports front (eqb-true (slice_index t.header 4) 0 both.0)
@@ -483,8 +467,7 @@ header_refused p byte why is refused = grind (arith)
 bare_some : (t : Report) (loose : Mark) (front : Front) → ReportsFront t loose front
     → AreStatus t.moved → 0 < length t.header
 bare_some t loose (In_header bytes) reports status = absurd (rw reports at status)
-bare_some t loose (In_body b) reports status = omega (arith, size_of reports)
-bare_some t loose (After_first b sw1) reports status = omega (arith, size_of reports)
+bare_some t loose other reports status = omega (arith, size_of reports)
 
 -- A reset after such a command, or after anything else.
 pub reset_noted : (events : List Event) (reports : List Report) (old new : Listener)

@@ -1,11 +1,13 @@
 //! The command line.
 
 use crate::describe::mask::{Mask, TagsFault};
+use crate::describe::names::Names;
 use crate::follow::blocks::edc_of;
 use crate::help;
 use crate::read::reading::Options;
 use crate::read::ways::Ways;
 use crate::write::layout::{Layout, Medium};
+use clap::builder::ValueParser;
 use clap::error::ErrorKind;
 use clap::{Arg, ArgAction, ArgMatches, Command, Error};
 use std::alloc::{AllocError, Global};
@@ -44,6 +46,21 @@ impl<'a> Request<'a> {
             _ => None,
         }
     }
+
+    /// The same, with these names.
+    pub fn with(self, names: Names) -> Request<'a> {
+        Request {
+            layout: self.layout,
+            title: self.title,
+            mask: self.mask.with(names),
+            resumes: self.resumes,
+            options: self.options,
+            paths: self.paths,
+            compared: self.compared,
+            names: self.names,
+            lists_names: self.lists_names,
+        }
+    }
 }
 
 /// Parses the command line. Its first word is the program's name. `forms` are the names of forms.
@@ -58,8 +75,13 @@ pub fn parsed<'a>(
     forms: &'a [&'a str],
 ) -> Result<Request<'a>, Error> {
     let matches = command(alloc, forms)?.try_get_matches_from(words)?;
-    let ways = ways(alloc, &matches)?;
-    let mask = mask(alloc, &matches)?;
+    requested(alloc, &matches)
+}
+
+/// What these matches ask for.
+fn requested<'a>(alloc: Global, matches: &ArgMatches<'a>) -> Result<Request<'a>, Error> {
+    let ways = ways(alloc, matches)?;
+    let mask = mask(alloc, matches)?;
     let medium = match (matches.get_flag("html"), matches.get_flag("json")) {
         (true, _) => Medium::Html,
         (_, true) => Medium::Json,
@@ -72,19 +94,16 @@ pub fn parsed<'a>(
     };
     let mut paths = Vec::new(alloc);
     paths.extend_from_slice(matches.get_strs("FILE").unwrap_or(&[]))?;
-    let form = forms
-        .iter()
-        .find(|name| matches.get_str("form") == Some(**name));
     Ok(Request {
         mask,
         options: Options {
-            form: form.copied(),
+            form: matches.get_str("form"),
             file: matches.get_str("form-file"),
             swaps: matches.get_flag("swap"),
             is_unsigned: matches.get_flag("unsigned"),
             ways,
             of_tpdus: matches.get_flag("tpdu"),
-            first_edc: first_edc(&matches),
+            first_edc: first_edc(matches),
         },
         layout,
         title: matches.get_str("title"),
@@ -107,9 +126,10 @@ fn first_edc(matches: &ArgMatches<'_>) -> Option<Edc> {
 
 /// What is hidden. The error says what is wrong with the tags.
 fn mask(alloc: Global, matches: &ArgMatches<'_>) -> Result<Mask, Error> {
-    let Some(tags) = matches.get_str("mask") else {
+    if !matches.contains_id("mask") {
         return Ok(Mask::none(alloc));
-    };
+    }
+    let tags = matches.get_str("mask").unwrap_or("");
     match Mask::of(alloc, tags) {
         Ok(mask) => Ok(mask),
         Err(TagsFault::OutOfMemory) => Err(Error::from(AllocError)),
@@ -173,38 +193,36 @@ struct Row(&'static str, &'static str, Takes);
 #[derive(Clone, Copy)]
 enum Takes {
     Nothing,
-    /// Two paths.
-    Paths,
-    /// Tags, or nothing.
-    Tags,
+    /// A value with each of these names.
+    Values(&'static [&'static str]),
+    /// A value with this name, or nothing.
+    Perhaps(&'static [&'static str]),
     /// The name of a form.
     Form,
-    /// One of these values.
-    One(&'static str, &'static [&'static str]),
-    /// Any value.
-    Any(&'static str),
+    /// A value with this name, which is one of these.
+    One(&'static [&'static str], &'static [&'static str]),
 }
 
 /// The options, in the order of the help.
 static OPTIONS: [Row; 19] = [
-    Row("diff", help::DIFF, Takes::Paths),
+    Row("diff", help::DIFF, Takes::Values(&["A", "B"])),
     Row("html", help::HTML, Takes::Nothing),
-    Row("title", help::TITLE, Takes::Any("TEXT")),
+    Row("title", help::TITLE, Takes::Values(&["TEXT"])),
     Row("json", help::JSON, Takes::Nothing),
     Row("commands", help::COMMANDS, Takes::Nothing),
-    Row("mask", help::MASK, Takes::Tags),
+    Row("mask", help::MASK, Takes::Perhaps(&["TAGS"])),
     Row("resume", help::RESUME, Takes::Nothing),
     Row("form", help::FORM, Takes::Form),
-    Row("form-file", help::FORM_FILE, Takes::Any("FILE")),
-    Row("names-file", help::NAMES_FILE, Takes::Any("FILE")),
+    Row("form-file", help::FORM_FILE, Takes::Values(&["FILE"])),
+    Row("names-file", help::NAMES_FILE, Takes::Values(&["FILE"])),
     Row("list-names", help::LIST_NAMES, Takes::Nothing),
     Row("swap", help::SWAP, Takes::Nothing),
     Row("unsigned", help::UNSIGNED, Takes::Nothing),
-    Row("to-card", help::TO_CARD, Takes::Any("INS")),
-    Row("from-card", help::FROM_CARD, Takes::Any("INS")),
+    Row("to-card", help::TO_CARD, Takes::Values(&["INS"])),
+    Row("from-card", help::FROM_CARD, Takes::Values(&["INS"])),
     Row("summary", help::SUMMARY, Takes::Nothing),
-    Row("protocol", help::PROTOCOL, Takes::One("T", &["t1"])),
-    Row("edc", help::EDC, Takes::One("EDC", &["lrc", "crc"])),
+    Row("protocol", help::PROTOCOL, Takes::One(&["T"], &["t1"])),
+    Row("edc", help::EDC, Takes::One(&["EDC"], &["lrc", "crc"])),
     Row("tpdu", help::TPDU, Takes::Nothing),
 ];
 
@@ -229,31 +247,40 @@ static RULES: [Rule; 10] = [
     Rule("tpdu", &[], &["resume", "unsigned"]),
 ];
 
-/// The option of a row.
+/// The rule of each other option.
+static NO_RULE: Rule = Rule("", &[], &[]);
+
+/// The option of a row. `--form` takes the names in `forms`.
 fn option<'a>(
     alloc: Global,
     row: &'static Row,
     forms: &'a [&'a str],
 ) -> Result<Arg<'a>, AllocError> {
     let Row(name, help, takes) = row;
-    let option = taking(*takes, Arg::new(alloc, name).long(name).help(help), forms);
-    match RULES.iter().find(|rule| rule.0 == *name) {
-        Some(rule) => option.requires_all(rule.1)?.conflicts_with_all(rule.2),
-        None => Ok(option),
-    }
+    let (action, names, least, parser) = taken(*takes, forms);
+    let found = RULES.iter().find(|rule| rule.0 == *name);
+    let Rule(_, needs, excludes) = found.unwrap_or(&NO_RULE);
+    Arg::new(alloc, name)
+        .long(name)
+        .help(help)
+        .action(action)
+        .value_names(names)
+        .num_args(least..=names.len())
+        .value_parser(parser)
+        .requires_all(needs)?
+        .conflicts_with_all(excludes)
 }
 
-/// The option, which takes this.
-fn taking<'a>(takes: Takes, option: Arg<'a>, forms: &'a [&'a str]) -> Arg<'a> {
+/// What an option does with its values, their names, their least number, and how each is read.
+fn taken<'a>(
+    takes: Takes,
+    forms: &'a [&'a str],
+) -> (ArgAction, &'static [&'static str], usize, ValueParser<'a>) {
     match takes {
-        Takes::Nothing => option.action(ArgAction::SetTrue),
-        Takes::Paths => option.value_names(["A", "B"].as_slice()).num_args(2..=2),
-        Takes::Tags => option
-            .value_name("TAGS")
-            .num_args(0..=1)
-            .default_missing_value(""),
-        Takes::Form => option.value_name("FORM").value_parser(forms),
-        Takes::One(name, all) => option.value_name(name).value_parser(all),
-        Takes::Any(name) => option.value_name(name),
+        Takes::Nothing => (ArgAction::SetTrue, &[], 0, ValueParser::Bool),
+        Takes::Values(names) => (ArgAction::Set, names, names.len(), ValueParser::String),
+        Takes::Perhaps(name) => (ArgAction::Set, name, 0, ValueParser::String),
+        Takes::Form => (ArgAction::Set, &["FORM"], 1, ValueParser::Names(forms)),
+        Takes::One(name, all) => (ArgAction::Set, name, 1, ValueParser::Names(all)),
     }
 }

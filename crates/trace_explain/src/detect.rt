@@ -136,8 +136,11 @@ fn lines_read(alloc: Global, rows: &Rows, head: &[u8]) -> Result<usize, AllocErr
 
 /// Returns these bytes up to the last LF; all if they have no LF.
 fn whole_lines(head: &[u8]) -> &[u8] {
-    match head.iter().rposition(|byte| *byte == b'\n') {
-        Some(place) => &head[..place],
-        None => head,
+    for behind in 0..head.len() {
+        let place = head.len() - 1 - behind;
+        if head[place] == b'\n' {
+            return &head[..place];
+        }
     }
+    head
 }

@@ -14,11 +14,12 @@ use crate::write::output::Output;
 use crate::write::sheet::Sheet;
 use crate::write::sink::Sink;
 use std::alloc::{AllocError, Global};
+use std::fmt;
 use std::io::{Read, Write};
 use thiserror::Error;
 
 /// Why two traces can't be compared.
-#[derive(Debug, Drop, Error)]
+#[derive(Drop, Error)]
 pub enum DiffFault {
     /// The file of this trace can't be opened: `A` or `B`.
     #[error("{0}: can't be opened")]
@@ -35,6 +36,12 @@ pub enum DiffFault {
     /// Memory ran out.
     #[error("out of memory")]
     OutOfMemory(#[from] AllocError),
+}
+
+impl fmt::Debug for DiffFault {
+    fn fmt<W: fmt::Write>(&self, f: &mut fmt::Formatter<W>) -> fmt::Result {
+        fmt::Display::fmt(self, f)
+    }
 }
 
 #[derive(Drop)]
@@ -78,21 +85,32 @@ pub fn diff<R: Read, S: Read, W: Write>(
     let (reading_a, reading_b) = readings;
     let mut a = Trace::new(alloc, "A", layout, other, resumes, reading_a, reader_a);
     let mut b = Trace::new(alloc, "B", layout, mask, resumes, reading_b, reader_b);
-    let mut output = Output::new(alloc, layout);
-    output.page.begin(title);
-    let mut words = Sheet::new(alloc, layout);
-    write_diff(&mut a, &mut b, &mut words, &mut output, writer)
+    write_diff(alloc, layout, title, &mut a, &mut b, writer)
 }
 
 /// Compares two traces, and writes what `compare` adds.
 fn write_diff<R: Read, S: Read, W: Write>(
+    alloc: Global,
+    layout: Layout,
+    title: &str,
     a: &mut Trace<'_, R>,
     b: &mut Trace<'_, S>,
+    writer: &mut W,
+) -> Result<bool, DiffFault> {
+    let mut output = Output::new(alloc, layout);
+    output.page.begin(title);
+    let mut words = Sheet::new(alloc, layout);
+    let alike = compare(a, b, &mut words, &mut output)?;
+    put_diff(&mut words, &mut output, writer)?;
+    Ok(alike)
+}
+
+/// Writes in what two traces differ, and both sides.
+fn put_diff<W: Write>(
     words: &mut Sheet,
     output: &mut Output,
     writer: &mut W,
-) -> Result<bool, DiffFault> {
-    let alike = compare(a, b, words, output)?;
+) -> Result<(), DiffFault> {
     if output.page.is_html() {
         output.page.open_block();
         output.page.line_row("TPDUs", words.as_str());
@@ -103,7 +121,7 @@ fn write_diff<R: Read, S: Read, W: Write>(
     words.push_str(output.sheet.as_str());
     words.is_whole()?;
     match writer.put(words.as_str().as_bytes()) {
-        Ok(()) | Err(ExplainFault::Closed) => Ok(alike),
+        Ok(()) | Err(ExplainFault::Closed) => Ok(()),
         Err(_) => Err(DiffFault::Write),
     }
 }
@@ -117,13 +135,25 @@ fn compare<R: Read, S: Read>(
     output: &mut Output,
 ) -> Result<bool, DiffFault> {
     for number in 1..u64::MAX {
-        if let Some(alike) = alike(a.front()?, b.front()?, number, words, output) {
+        if let Some(alike) = pass(a, b, number, words, output)? {
             return Ok(alike);
         }
-        a.passed = a.passed.saturating_add(1);
-        b.passed = b.passed.saturating_add(1);
     }
     Ok(true)
+}
+
+/// Passes the TPDUs with this number, and returns what `alike` does.
+fn pass<R: Read, S: Read>(
+    a: &mut Trace<'_, R>,
+    b: &mut Trace<'_, S>,
+    number: u64,
+    words: &mut Sheet,
+    output: &mut Output,
+) -> Result<Option<bool>, DiffFault> {
+    let alike = alike(a.front()?, b.front()?, number, words, output);
+    a.passed = a.passed.saturating_add(1);
+    b.passed = b.passed.saturating_add(1);
+    Ok(alike)
 }
 
 /// Compares the TPDUs with this number. Returns whether the traces are alike; `None` as long as

@@ -3,8 +3,10 @@ ghost use Rattle.std.specs.Prelude.{◌≡◌, ◌≤◌, ◌<◌, ◌+◌, ◌+
 ghost use Rattle.std.specs.Io.KnownBytes.{Appends};
 ghost use Rattle.std.specs.String.{string_bytes};
 ghost use Rattle.std.specs.Str.Lines.{strip_carriage_return};
+ghost use Rattle.trace_explain.specs.declared.describe.mask.Mask.{Mask};
 ghost use Rattle.trace_explain.specs.declared.read.reading.Reading.{Reading};
-ghost use Rattle.trace_explain.specs.Account.{HasWritten, Out, WritesOut, WritesReports, out_with};
+ghost use Rattle.trace_explain.specs.declared.write.layout.Layout.{Layout};
+ghost use Rattle.trace_explain.specs.Account.{HasWritten, Out, WritesOut, WritesReports, first_out, out_with};
 ghost use Rattle.trace_explain.specs.Explained.{position_of};
 ghost use Rattle.trace_explain.specs.Trace.{AreOfLine, HasLeft, HasReceived, IsExplained, IsOfLines, IsOfSink, IsOfWriting, IsReady, IsWhole, KeepsLimit, StopsIn, lines_of};
 
@@ -56,7 +58,30 @@ pub fn explain<R: Read, W: Sink>(
     ensures fails { IfErr result (IsOfSink W.fails) }
 {
     let mut explainer = Explainer::new(alloc, layout, title, mask, resumes, reading);
-    let outcome = explain_chunks(alloc, &mut explainer, reader, writer);
+    explain_all(alloc, &mut explainer, reader, writer)
+}
+
+/// Explains the trace from its first byte, up to the last block.
+fn explain_all<R: Read, W: Sink>(
+    alloc: Global,
+    explainer: &mut Explainer,
+    reader: &mut R,
+    writer: &mut W,
+) -> Result<(), ExplainFault>
+    ensures explained { (layout : Layout) (mask : Mask) (reading : Reading) →
+        IsReady (first_out layout mask) reading explainer.old →
+        OnOk result (IfSome (R.remaining reader.old) (λ bytes. IsWhole
+        (WritesReports layout mask (W.contents writer.old) (W.contents writer.new)) reading
+        (lines_of bytes))) }
+    ensures stops { (layout : Layout) (mask : Mask) (reading : Reading) →
+        IsReady (first_out layout mask) reading explainer.old → IfErr result (λ fault.
+        IfSome (R.remaining reader.old) (λ bytes. StopsIn
+        (WritesReports layout mask (W.contents writer.old) (W.contents writer.new)) reading
+        (lines_of bytes) fault)) }
+    ensures limited { IfSome (R.remaining reader.old) (λ bytes. KeepsLimit bytes result) }
+    ensures fails { IfErr result (IsOfSink W.fails) }
+{
+    let outcome = explain_chunks(alloc, explainer, reader, writer);
     explainer.end()?;
     write_output(&mut explainer.teller.output.sheet, writer)?;
     explainer.teller.output.sheet.is_whole()?;

@@ -8,12 +8,12 @@ use crate::follow::turn::TurnFault;
 use crate::read::trace_line::LineFault;
 use crate::write::notes::Excerpt;
 use std::alloc::AllocError;
-use std::io;
+use std::{fmt, io};
 use thiserror::Error;
 
 /// Why an explanation stopped, or what it met. The program then ends with status 1, or with 0 after
 /// `Closed`. Lines are counted from 1, places in a line from 0.
-#[derive(Debug, Drop, Error)]
+#[derive(Drop, Error)]
 pub enum ExplainFault {
     /// A line is refused for this reason, never `OutOfMemory`. The lines before were explained.
     #[error("line {line}: {why}")]
@@ -92,6 +92,12 @@ pub enum ExplainFault {
     /// Memory ran out.
     #[error("out of memory")]
     OutOfMemory,
+}
+
+impl fmt::Debug for ExplainFault {
+    fn fmt<W: fmt::Write>(&self, f: &mut fmt::Formatter<W>) -> fmt::Result {
+        fmt::Display::fmt(self, f)
+    }
 }
 
 impl ExplainFault {

@@ -446,15 +446,20 @@ impl Explainer {
             return Ok(());
         }
         if self.reading.of_tpdus {
-            let mut entries = Vec::new(self.alloc);
-            self.log.end(&mut entries)?;
-            for entry in &entries {
-                self.teller.tell_logged(entry)?;
-            }
+            self.end_log()?;
             return self.teller.end(&self.preface, &mut self.listener);
         }
         tell_passed(self.resuming.end(), &mut self.teller.output.page);
         self.teller.end(&self.preface, &mut self.listener)
+    }
+
+    /// Explains what the end of a log leaves open.
+    fn end_log(&mut self) -> Result<(), AllocError>
+        ensures { OnOk result (position_of self.new ≡ position_of self.old) }
+    {
+        let mut entries = Vec::new(self.alloc);
+        self.log.end(&mut entries)?;
+        self.teller.tell_all(entries.as_slice())
     }
 }
 

@@ -12,6 +12,7 @@ use crate::help;
 use crate::read::files::{FileFault, FileList, joined};
 use crate::read::forms::{FORMS, Forms, FormsFault};
 use crate::read::reading::{Options, Reading};
+use crate::write::sink::Sink;
 use clap::Error;
 use clap::error::ErrorKind;
 use std::alloc::Global;
@@ -67,10 +68,11 @@ fn carry_out<D: Files, R: Read, W: Write, F: Write>(
     if asked.lists_names {
         return list(&names, output, faults);
     }
+    let asked = asked.with(names);
     let Some(paths) = asked.compared else {
-        return explained(alloc, asked, names, files, input, output, faults);
+        return explained(alloc, asked, files, input, output, faults);
     };
-    match diff_files(alloc, asked, names, files, paths, output) {
+    match diff_files(alloc, asked, files, paths, output) {
         Ok(alike) => u8::from(!alike),
         Err(DiffFault::Forms(fault)) => refused(fault, faults),
         Err(fault) => print_fault(&fault, faults),
@@ -81,7 +83,6 @@ fn carry_out<D: Files, R: Read, W: Write, F: Write>(
 fn explained<D: Files, R: Read, W: Write, F: Write>(
     alloc: Global,
     asked: Request<'_>,
-    names: Names,
     files: &D,
     input: &mut R,
     output: &mut W,
@@ -91,17 +92,15 @@ fn explained<D: Files, R: Read, W: Write, F: Write>(
 {
     let none = FileList::none(alloc);
     match asked.path() {
-        Some("-") => explained_by(alloc, asked, names, files, none, input, output, faults),
+        Some("-") => explained_by(alloc, asked, files, &none, input, output, faults),
         Some(path) => match File::open(files, path) {
-            Ok(mut file) => {
-                explained_by(alloc, asked, names, files, none, &mut file, output, faults)
-            }
+            Ok(mut file) => explained_by(alloc, asked, files, &none, &mut file, output, faults),
             Err(_) => print_fault(&FileFault::Open(path), faults),
         },
         None => match joined(alloc, asked.paths.as_slice(), files, input) {
             Ok((list, text)) => {
                 let mut input = text.as_slice();
-                explained_by(alloc, asked, names, files, list, &mut input, output, faults)
+                explained_by(alloc, asked, files, &list, &mut input, output, faults)
             }
             Err(fault) => print_fault(&fault, faults),
         },
@@ -112,36 +111,32 @@ fn explained<D: Files, R: Read, W: Write, F: Write>(
 fn explained_by<D: Files, R: Read, W: Write, F: Write>(
     alloc: Global,
     asked: Request<'_>,
-    names: Names,
     files: &D,
-    list: FileList,
+    list: &FileList,
     input: &mut R,
     output: &mut W,
     faults: &mut F,
 ) -> u8
     ensures status { result ≤ 2 }
 {
-    let (head, mut reading) = match begin(alloc, &asked, files, input, faults) {
+    let (head, reading) = match begin(alloc, &asked, files, list, input, faults) {
         Ok(begun) => begun,
         Err(fault) => return refused(fault, faults),
     };
-    if reading.files.extend(&list, u64::MAX).is_err() {
-        return print_fault(&ExplainFault::OutOfMemory, faults);
-    }
-    let path = asked.path().filter(|path| *path != "-");
+    let path = asked.path();
     let (layout, resumes) = (asked.layout, asked.resumes);
     let title = asked.title.unwrap_or("A trace, explained");
-    let mask = asked.mask.with(names);
+    let mask = asked.mask;
     let mut whole = head.as_slice().chain(input);
     let mut outcome = explain(
         alloc, layout, title, mask, resumes, reading, &mut whole, output,
     );
-    print_place(&mut outcome, path, &list, faults);
+    print_place(&mut outcome, path, list, faults);
     status(&outcome, faults)
 }
 
 /// Writes the file of a fault before it, and makes its line one of this file. `path` is that of a
-/// trace of one file.
+/// trace of one file, or `-`.
 fn print_place<F: Write>(
     outcome: &mut Result<(), ExplainFault>,
     path: Option<&str>,
@@ -155,18 +150,21 @@ fn print_place<F: Write>(
             if let Some(name) = name {
                 let _ = write!(faults, "{name} ");
             }
-        } else if let (ExplainFault::Read, Some(path)) = (fault, path) {
+        } else if let (ExplainFault::Read, Some(path)) = (fault, path)
+            && path != "-"
+        {
             let _ = write!(faults, "{path}: ");
         }
     }
 }
 
-/// Returns the bytes that were read to find the form of a trace, and how its lines are read. Writes
-/// the form to `faults` if it is one of whole commands.
+/// Returns the bytes that were read to find the form of a trace of these files, and how its lines
+/// are read. Writes the form to `faults` if it is one of whole commands.
 fn begin<D: Files, R: Read, F: Write>(
     alloc: Global,
     asked: &Request<'_>,
     files: &D,
+    list: &FileList,
     input: &mut R,
     faults: &mut F,
 ) -> Result<(Vec<u8>, Reading), FormsFault> {
@@ -180,10 +178,11 @@ fn begin<D: Files, R: Read, F: Write>(
             print_forms(forms.as_slice(), faults);
         }
     }
-    let reading = reading(alloc, &options, files)?;
+    let mut reading = reading(alloc, &options, files)?;
     if reading.of_tpdus && asked.resumes {
         return Err(FormsFault::Resume);
     }
+    reading.files.extend(list, u64::MAX)?;
     Ok((head, reading))
 }
 
@@ -219,11 +218,19 @@ fn reading<D: Files>(
     options: &Options<'_>,
     files: &D,
 ) -> Result<Reading, FormsFault> {
-    let Some(path) = options.file else {
-        return Ok(options.reading(alloc, &Forms::of(alloc, FORMS)?)?);
-    };
-    let text = text_of(alloc, files, path, "forms")?;
-    let forms = Forms::of(alloc, text.as_str())?;
+    match options.file {
+        Some(path) => read_by(
+            alloc,
+            options,
+            text_of(alloc, files, path, "forms")?.as_str(),
+        ),
+        None => read_by(alloc, options, FORMS),
+    }
+}
+
+/// The same by the forms in this text.
+fn read_by(alloc: Global, options: &Options<'_>, text: &str) -> Result<Reading, FormsFault> {
+    let forms = Forms::of(alloc, text)?;
     if forms.forms.is_empty() {
         return Err(FormsFault::Line(1));
     }
@@ -245,41 +252,29 @@ fn text_of<D: Files>(
     path: &str,
     kind: &'static str,
 ) -> Result<String, FormsFault> {
-    let file = File::open(files, path).map_err(|_| FormsFault::Open(kind))?;
-    read_to_string(alloc, file).map_err(|_| FormsFault::Open(kind))
+    let fault = FormsFault::Open(kind);
+    let file = File::open(files, path).ok().ok_or(fault)?;
+    read_to_string(alloc, file).ok().ok_or(fault)
 }
 
 /// Writes the rows of names. Returns 0, or 1 for a fault.
 fn list<W: Write, F: Write>(names: &Names, output: &mut W, faults: &mut F) -> u8
     ensures status { result ≤ 2 }
 {
-    let outcome = output.write_all(names.text().as_bytes());
-    let outcome = outcome.map_err(|error| ExplainFault::of_writing(&error));
-    status(&outcome, faults)
+    status(&output.put(names.text().as_bytes()), faults)
 }
 
 /// Compares the traces of two files.
 fn diff_files<D: Files, W: Write>(
     alloc: Global,
     asked: Request<'_>,
-    names: Names,
     files: &D,
     paths: (&str, &str),
     output: &mut W,
 ) -> Result<bool, DiffFault> {
-    let (path_a, path_b) = paths;
-    let options = asked.options;
-    let mut a = File::open(files, path_a).map_err(|_| DiffFault::Open("A"))?;
-    let mut b = File::open(files, path_b).map_err(|_| DiffFault::Open("B"))?;
-    let readings = (
-        reading(alloc, &options, files)?,
-        reading(alloc, &options, files)?,
-    );
-    if readings.0.of_tpdus && asked.resumes {
-        return Err(DiffFault::Forms(FormsFault::Resume));
-    }
+    let (mut a, mut b, readings) = open_both(alloc, &asked, files, paths)?;
     let title = asked.title.unwrap_or("Two traces, compared");
-    let (mask, readers) = (asked.mask.with(names), (&mut a, &mut b));
+    let (mask, readers) = (asked.mask, (&mut a, &mut b));
     diff(
         alloc,
         asked.layout,
@@ -290,6 +285,32 @@ fn diff_files<D: Files, W: Write>(
         readers,
         output,
     )
+}
+
+/// Opens two files, and returns them with how the lines of each are read.
+fn open_both<D: Files>(
+    alloc: Global,
+    asked: &Request<'_>,
+    files: &D,
+    paths: (&str, &str),
+) -> Result<(D::File, D::File, (Reading, Reading)), DiffFault> {
+    let a = File::open(files, paths.0).ok().ok_or(DiffFault::Open("A"))?;
+    let b = File::open(files, paths.1).ok().ok_or(DiffFault::Open("B"))?;
+    Ok((a, b, readings(alloc, asked, files)?))
+}
+
+/// Returns how the lines of two traces are read.
+fn readings<D: Files>(
+    alloc: Global,
+    asked: &Request<'_>,
+    files: &D,
+) -> Result<(Reading, Reading), FormsFault> {
+    let first = reading(alloc, &asked.options, files)?;
+    let second = reading(alloc, &asked.options, files)?;
+    if first.of_tpdus && asked.resumes {
+        return Err(FormsFault::Resume);
+    }
+    Ok((first, second))
 }
 
 /// The status for an error of the parser. Help goes to `output`, and a refusal to `faults`.

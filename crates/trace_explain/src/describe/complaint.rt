@@ -9,7 +9,7 @@ use t0_core::{Direction, Due, End};
 pub const ASTRAY: &str = "the trace may begin within a TPDU";
 
 /// A byte of the trace, which may be hidden.
-#[derive(Clone, Copy, Debug)]
+#[derive(Clone, Copy)]
 pub struct Seen {
     /// The byte.
     pub byte: u8,
@@ -27,7 +27,7 @@ impl fmt::Display for Seen {
 }
 
 /// An unexpected byte, its place, and what was expected.
-#[derive(Clone, Copy, Debug)]
+#[derive(Clone, Copy)]
 pub struct Complaint {
     /// The line, counted from 1.
     pub line: u64,

@@ -34,7 +34,7 @@ pub enum Stage {
 }
 
 /// What a character is.
-#[derive(Clone, Copy, PartialEq, Eq)]
+#[derive(Clone, Copy)]
 pub enum Role {
     /// TS of an answer whose characters this convention turns.
     Ts(Convention),

@@ -67,7 +67,7 @@ impl Story {
         let piece = self.chain.link_of(header);
         let le = le_of(tpdu, p3);
         let links = self.linked(tpdu, header, le);
-        if self.response.link_of(header, le) == Link::None {
+        if matches!(self.response.link_of(header, le), Link::None) {
             self.response.begin(header);
         }
         self.chain

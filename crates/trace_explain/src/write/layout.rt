@@ -34,7 +34,7 @@ pub enum Side {
 }
 
 /// What a box of rows is about.
-#[derive(Clone, Copy, PartialEq, Eq)]
+#[derive(Clone, Copy)]
 pub enum Kind {
     /// A success: also `61XX` and `6CXX`, an answer to reset, or a PPS exchange.
     Well,

@@ -18,7 +18,7 @@ const ODD_BYTES: usize = 24;
 const EXCERPT: usize = 64;
 
 /// The first bytes of a note, or `**`.
-#[derive(Clone, Copy, Debug)]
+#[derive(Clone, Copy)]
 pub struct Excerpt {
     bytes: [u8; EXCERPT],
     /// How many bytes all of it has.

@@ -12,19 +12,6 @@ use crate::write::page::Page;
 use crate::write::pps::tell_pps;
 use crate::write::sheet::Sheet;
 
-/// Adds the box of the part that ends before a character of this role, if any.
-pub fn tell_before(
-    role: Role,
-    preface: &Preface,
-    mask: &Mask,
-    counts: &mut Counts,
-    page: &mut Page,
-) {
-    if !role.continues() {
-        tell_part(preface, mask, counts, page);
-    }
-}
-
 /// Adds the box of the part that ended with a character of this role, if any.
 pub fn tell_after(
     role: Role,

@@ -33,7 +33,7 @@ use crate::write::kept::{Keeping, Kept};
 use crate::write::layout::{Layout, Topic};
 use crate::write::notes::{Excerpt, tell_bytes, tell_note};
 use crate::write::output::Output;
-use crate::write::preface_box::{tell_after, tell_before, tell_dropped, tell_part};
+use crate::write::preface_box::{tell_after, tell_dropped, tell_part};
 use crate::write::tpdu_box::tell_box;
 use std::alloc::{AllocError, Global};
 use std::mem;
@@ -166,8 +166,9 @@ impl Teller {
     fn tell_before(&mut self, role: Role, preface: &Preface, rest: &[u8])
         ensures { StaysWritten self.old self.new }
     {
-        let (mask, counts) = (&self.mask, &mut self.counts);
-        tell_before(role, preface, mask, counts, &mut self.output.page);
+        if !role.continues() {
+            tell_part(preface, &self.mask, &mut self.counts, &mut self.output.page);
+        }
         if role.is_stray() && self.strays != self.line {
             self.strays = self.line;
             let what = "before a header, from the card:\n";
@@ -190,9 +191,17 @@ impl Teller {
             (opening_of preface.new ≡ opens unopened (role_of unopened from byte) byte number) }
         ensures boxes { OnOk result (AddsBoxes [] self.old self.new) }
     {
+        self.begin_again(preface);
+        self.open(preface, from, byte, number, rest)
+    }
+
+    /// Writes a reset without a line `reset`. `preface` starts again.
+    fn begin_again(&mut self, preface: &mut Preface)
+        ensures stays { StaysWritten self.old self.new }
+        ensures opened { opening_of preface.new ≡ unopened }
+    {
         self.tell_reset("reset, as the card's answer shows (no line says so)");
         preface.reset();
-        self.open(preface, from, byte, number, rest)
     }
 
     /// Writes the note of a reset, and whether it drops a chain.
@@ -272,7 +281,7 @@ impl Teller {
             (reports_with role (opening_of preface.new).blocks) events before listener.new
             self.old self.new) }
     {
-        self.lead_to_blocks(preface, role == Role::Block(End::Card));
+        self.lead_to_blocks(preface, matches!(role, Role::Block(End::Card)));
         preface.take(role, byte, self.line, number)?;
         match &mut preface.blocks {
             Some(blocks) => self.tell_blocks(blocks, listener),
@@ -561,7 +570,15 @@ impl Teller {
         }
     }
 
-    /// Writes an entry that only a log has. Returns `AllocError` if memory ran out: drop the teller.
+    /// Writes entries that only a log has. Returns `AllocError` if memory ran out: drop the teller.
+    pub fn tell_all(&mut self, entries: &[Entry]) -> Result<(), AllocError> {
+        for entry in entries {
+            self.tell_logged(entry)?;
+        }
+        Ok(())
+    }
+
+    /// Writes one of them, with the same error.
     pub fn tell_logged(&mut self, entry: &Entry) -> Result<(), AllocError> {
         match entry {
             Entry::Begins => {

@@ -1,4 +1,5 @@
 use Rattle.std.proofs.Common.{◌≡◌, ◌∙◌, ◌==◌, ◌&&◌, [], ◌∷◌, Bool, false, true, not, ap, length, subst, sym, inl, inr, refl}
+use Rattle.std.proofs.lemmas.Bool.{and_parts}
 use Rattle.trace_explain.specs.declared.follow.listener.Listener.{Listener}
 use Rattle.trace_explain.specs.declared.follow.tpdu.Mark.{Mark}
 use Rattle.trace_explain.specs.Noted.{HasNoted, Passed, Reset}
@@ -9,7 +10,6 @@ use Rattle.trace_explain.specs.Reports.{report_of}
 use Rattle.trace_explain.proofs.AccountLemmas.{boxes_both}
 use Rattle.trace_explain.proofs.CarriedLemmas.{block_takes, none_opens, one_passes}
 use Rattle.trace_explain.proofs.ExplainedLemmas.{explains_nothing, over_behind}
-use Rattle.trace_explain.proofs.NotedLemmas.{both_hold}
 use Rattle.trace_explain.proofs.explainer.Explainer.character.Goals as goal
 
 pub returns-then-is_block-clause-takes : goal.returns-then-is_block-clause-takes
@@ -97,12 +97,12 @@ returns-then-answers_again-clause-takes c = λ events before h.
     let (same, none, boxes) = rw c.if-continues.false at
     (c.in_ok-continues.ensures events before h.0) in
     let noted = subst L (sym same) h.0 in
-    let (both, empty) = both_hold
+    let (both, empty) = and_parts
     (c.has_begun-begun.result && begins_answer c.args.from c.args.byte)
     (length (report_of there.under_way).header == 0)
     (sym c.answers_again.ensures ∙ c.if-answers_again.true) in
     let (begun, begins) =
-    both_hold c.has_begun-begun.result (begins_answer c.args.from c.args.byte) both in (
+    and_parts c.has_begun-begun.result (begins_answer c.args.from c.args.byte) both in (
       Reset ∷ [],
       inr (record {
         has_begun = sym (c.has_begun-begun.ensures) ∙ begun;

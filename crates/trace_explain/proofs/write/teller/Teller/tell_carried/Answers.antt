@@ -1,9 +1,9 @@
 use Rattle.std.proofs.Common.{List, ℕ, subst}
+use Rattle.std.proofs.lemmas.Result.{on_ok_weaker}
 use Rattle.trace_explain.specs.Overheard.{overheard_by}
 use Rattle.trace_explain.specs.Pairs.{IsBadPair, IsPair}
 use Rattle.trace_explain.proofs.AccountLemmas.{boxes_from, boxes_stay}
 use Rattle.trace_explain.proofs.CarriedLemmas.{carries_pair, carries_refused}
-use Rattle.trace_explain.proofs.ExplainedLemmas.{on_ok_too}
 use Rattle.trace_explain.proofs.write.teller.Teller.tell_carried.Goals as goal
 
 pub returns-in-Ok : goal.returns-in-Ok
@@ -33,6 +33,6 @@ returns-in-Err c =
           c.tell_refused.new.self
           (subst P c.command.ensures (subst Q c.gathered.ensures c.in-Err.ensures.refused))
           c.tell_refused.ensures.refusal h
-          (on_ok_too c.tell_refused.result _ _ c.tell_refused.ensures.stays
-          (λ s. boxes_from s boxes_stay));
+          (on_ok_weaker c.tell_refused.result (λ s. boxes_from s boxes_stay)
+          c.tell_refused.ensures.stays);
     }

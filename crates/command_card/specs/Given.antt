@@ -68,7 +68,7 @@ settled s =
 -- a reset drops a response, whose command then never settles
 abbrev pub after_drop : GivenState → GivenState
 after_drop s =
-    record { directions = forgotten s.directions; given = None; settled = s.settled; handed = false }
+    record s { directions = forgotten s.directions; given = None; handed = false }
 
 abbrev pub IsGiven : Option Answer → List ℕ → StatusWord → Type 0
 IsGiven None bytes status = ⊥

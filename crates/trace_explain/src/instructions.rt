@@ -197,7 +197,7 @@ pub fn has_messaging(cla: u8) -> bool
 }
 
 /// Whether the terminal's data may be objects. With secure messaging they may. Else a name, a path
-/// and reference data are none, unless bit 1 of INS is set (ISO/IEC 7816-4, 5.4.2, 7.1.1, 7.5).
+/// and reference data are not, unless bit 1 of INS is set (ISO/IEC 7816-4, 5.4.2, 7.1.1, 7.5).
 pub fn may_have_objects(header: Header) -> bool {
     let Header { cla, ins, .. } = header;
     has_messaging(cla) || (ins != 0xA4 && (ins & 1 == 1 || !is_secret(ins)))

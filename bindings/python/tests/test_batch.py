@@ -595,7 +595,7 @@ def test_an_interrupted_run_ends_the_card_in_progress(tmp_path, handler):
 
 def test_a_run_that_is_interrupted_twice_lists_its_row(tmp_path):
     room = Room(tmp_path, 3)
-    room.environment["SLOW"] = "0.5"
+    room.environment["SLOW"] = "1.5"
     run = interruptible(room)
     begun(room)
     os.kill(run.pid, signal.SIGINT)

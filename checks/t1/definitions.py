@@ -43,6 +43,9 @@ class Clause:
         token = self.next()
         if token == "[]":
             return ("nil",)
+        if self.rest[0] == ".":  # a variant of the code
+            token = self.rest.pop(1)
+            self.next()
         if token != "(":
             return ("con", token, []) if token[0].isupper() or token in NAMES else ("var", token)
         inner = [self.pattern()]
@@ -123,93 +126,98 @@ class Clause:
 
 
 class Definitions:
-    """All clauses of these files, by name. `fixed` replaces a definition by a value."""
+    """All clauses of these files, as functions of Python. `fixed` replaces a definition by a
+    value."""
 
     def __init__(self, texts, fixed):
-        self.clauses, self.fixed = {}, fixed
+        clauses, self.fixed, self.functions = {}, {**NAMES, **fixed}, {}
         for text in texts:
             for chunk in re.split(r"\n(?=\S)", re.sub(r"--[^\n]*", "", text)):
                 if not re.match(r"(use|abbrev|pub|data)\b", chunk) and chunk.strip():
                     clause = Clause(chunk)
-                    self.clauses.setdefault(clause.name, []).append(clause)
+                    clauses.setdefault(clause.name, []).append(clause)
+        for name, of in clauses.items():
+            exec("\n".join(self.function(name, of)), self.functions)
 
     def __call__(self, name, *values):
-        for clause in self.clauses[name]:
-            names = {}
-            if len(values) >= len(clause.patterns) and all(
-                matches(pattern, value, names) for pattern, value in zip(clause.patterns, values)
-            ):
-                return self.value(clause.body, names)
-        raise ValueError(f"no clause of {name} takes {values}")
+        return self.functions[f"of_{name}"](*values)
 
-    def value(self, e, names):
-        kind = e[0]
-        if kind == "number":
-            return e[1]
-        if kind == "nil":
-            return ()
+    def function(self, name, clauses):
+        """The lines of a function: it returns the value of the first clause that takes its
+        arguments."""
+        yield f"def of_{name}(*a):"
+        for clause in clauses:
+            tests, names = [f"len(a) >= {len(clause.patterns)}"], set()
+            for at, pattern in enumerate(clause.patterns):
+                tests += tests_of(pattern, f"a[{at}]", names)
+            yield f"    if {' and '.join(tests)}: return {self.text(clause.body, names)}"
+        yield f"    raise ValueError(f'no clause of {name} takes {{a}}')"
+
+    def text(self, e, names):
+        """An expression in Python, where `names` are variables."""
+        kind, rest = e[0], e[1:]
+        if kind in ("number", "nil"):
+            return str(rest[0] if rest else ())
         if kind == "name":
-            return self.named(e[1], names)
+            return self.named(rest[0], names)
         if kind == "let":
-            return self.value(e[3], {**names, e[1]: self.value(e[2], names)})
-        if kind == "if":
-            return self.value(e[2] if self.value(e[1], names) else e[3], names)
+            inner = self.text(rest[2], {*names, rest[0]})
+            return f"(lambda v_{rest[0]}: {inner})({self.text(rest[1], names)})"
         if kind == "field":
-            return self.value(e[1], names)[e[2]]
+            return f"{self.text(rest[0], names)}[{rest[1]!r}]"
         if kind == "record":
-            base = self.value(e[1], names) if e[1] else {}
-            return {**base, **{k: self.value(v, names) for k, v in e[2].items()}}
+            base = [f"**{self.text(rest[0], names)}"] if rest[0] else []
+            fields = [f"{name!r}: {self.text(it, names)}" for name, it in rest[1].items()]
+            return f"{{{', '.join(base + fields)}}}"
         if kind == "call":
-            return self.called(e, names)
-        left, right = self.value(e[1], names), self.value(e[2], names)
-        if kind == "∷":
-            return (left,) + right
-        return left == right if kind == "==" else left * right if kind == "*" else left + right
+            return self.called(rest[0], [self.text(it, names) for it in rest[1]], names)
+        parts = [self.text(it, names) for it in rest]
+        if kind == "if":
+            return FORMS["cond"].format(*parts)
+        return f"(({parts[0]},) + {parts[1]})" if kind == "∷" else \
+            f"({parts[0]} {kind.replace('++', '+')} {parts[1]})"
 
     def named(self, name, names):
         if name in names:
-            return names[name]
-        if name in NAMES:
-            return NAMES[name]
+            return f"v_{name}"
         if name in self.fixed:
-            return self.fixed[name]
-        return (name,) if name[0].isupper() else self(name)
+            return str(self.fixed[name])
+        return f"({name!r},)" if name[0].isupper() else f"of_{name}()"
 
-    def called(self, e, names):
-        head, rest = e[1], e[2]
-        if head == ("name", "cond"):
-            return self.value(rest[1] if self.value(rest[0], names) else rest[2], names)
-        values = [self.value(part, names) for part in rest]
-        if head[0] != "name" or head[1] in names:
-            return self.value(head, names)(*values)
+    def called(self, head, values, names):
         name = head[1]
-        if name == "take":
-            return values[1][: values[0]]
-        if name == "drop":
-            return values[1][values[0] :]
-        if name == "not":
-            return not values[0]
-        if name == "length":
-            return len(values[0])
-        if name == "nat_lt":
-            return values[0] < values[1]
-        return (name, *values) if name[0].isupper() else self(name, *values)
+        if head[0] != "name" or name in names:
+            return f"{self.text(head, names)}({', '.join(values)})"
+        if name in FORMS:
+            return FORMS[name].format(*values)
+        if name[0].isupper():
+            return f"({name!r}, {', '.join(values)})"
+        return f"of_{name}({', '.join(values)})"
 
 
-def matches(pattern, value, names):
+# What the files use and do not define.
+FORMS = {"cond": "({1} if {0} else {2})", "take": "{1}[:{0}]", "drop": "{1}[{0}:]",
+         "not": "(not {0})", "length": "len({0})", "nat_lt": "({0} < {1})"}
+
+
+def tests_of(pattern, at, names):
+    """Tests in Python of whether the value `at` fits, which set the variables of the pattern."""
     kind = pattern[0]
     if kind == "var":
-        names[pattern[1]] = value
-        return True
-    if kind == "nil":
-        return value == ()
-    if kind == "cons":
-        return value != () and all(
-            matches(p, v, names) for p, v in zip(pattern[1:], (value[0], value[1:]))
-        )
-    name, parts = pattern[1], pattern[2]
-    if name in NAMES:
-        return value == NAMES[name] and isinstance(value, bool) == isinstance(NAMES[name], bool)
-    if name == "suc":
-        return value > 0 and matches(parts[0], value - 1, names)
-    return value[0] == name and all(matches(p, v, names) for p, v in zip(parts, value[1:]))
+        names.add(pattern[1])
+        yield f"[v_{pattern[1]} := {at}]"
+    elif kind == "nil":
+        yield f"{at} == ()"
+    elif kind == "cons":
+        yield f"{at} != ()"
+        yield from tests_of(pattern[1], f"{at}[0]", names)
+        yield from tests_of(pattern[2], f"{at}[1:]", names)
+    elif pattern[1] in NAMES:
+        yield f"({at}, type({at})) == ({NAMES[pattern[1]]}, {type(NAMES[pattern[1]]).__name__})"
+    elif pattern[1] == "suc":
+        yield f"{at} > 0"
+        yield from tests_of(pattern[2][0], f"({at} - 1)", names)
+    else:
+        yield f"{at}[0] == {pattern[1]!r}"
+        for number, part in enumerate(pattern[2], 1):
+            yield from tests_of(part, f"{at}[{number}]", names)

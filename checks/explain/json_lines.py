@@ -21,6 +21,8 @@ SCHEMA = HERE.parents[1] / "docs/trace_explain.schema.json"
 # What text shows of a TPDU. Digits of data may continue in the lines below.
 ROW = re.compile(r"  [<> ] (header|data|status) +(.*)")
 TITLE = re.compile(r"#(\d+) .*")
+# A number of a TPDU or a line. Each from 1 on is allowed.
+PLACE = re.compile(r'("(?:number|line|continues)":)[1-9]\d*')
 LAYOUT = {"--html", "--json", "--commands", "--summary"}
 
 
@@ -53,17 +55,22 @@ def unique(pairs):
     return dict(pairs)
 
 
-@lru_cache(maxsize=None)
 def object_of(line):
-    """The object of a line, which the schema must allow. Many cases and both programs write the
-    same lines, and validation takes longest, so each line is read once."""
-    found = json.loads(line, object_pairs_hook=unique)
+    """The object of a line, which the schema must allow."""
     if VALIDATORS:
-        if found.get("type") not in VALIDATORS:
-            raise ValueError(f"an object of no type in the schema: {line[:200]}")
-        for error in VALIDATORS[found["type"]].iter_errors(found):
-            raise ValueError(f"{error.message[:200]} in {line[:200]}")
-    return found
+        validate(PLACE.sub(r"\g<1>1", line))
+    return json.loads(line, object_pairs_hook=unique)
+
+
+@lru_cache(maxsize=None)
+def validate(line):
+    """Looks whether the schema allows a line. This takes longest, so lines that only differ in
+    their places are looked at once."""
+    found = json.loads(line)
+    if found.get("type") not in VALIDATORS:
+        raise ValueError(f"an object of no type in the schema: {line[:200]}")
+    for error in VALIDATORS[found["type"]].iter_errors(found):
+        raise ValueError(f"{error.message[:200]} in {line[:200]}")
 
 
 def objects_of(program, case, words):

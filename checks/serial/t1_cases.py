@@ -363,6 +363,8 @@ SESSIONS = int(os.environ.get("SESSIONS", 2000 if len(sys.argv) == 1 else 40))
 
 
 FAST = ["--no-echo", "--baud", 1000000, "--slack"]
+# A random line looks for no leaks, which takes half of it. The other lines do.
+NO_LEAKS = {"ASAN_OPTIONS": os.environ.get("ASAN_OPTIONS", "") + ":detect_leaks=0"}
 
 
 def over(talk, noise, slack):
@@ -381,7 +383,7 @@ def over(talk, noise, slack):
     return program, objects.log
 
 
-def between(talk, noise, slack, stops, late=0):
+def between(talk, noise, slack, stops, late=0, environment=()):
     """Runs gt_serial with serial_card over a noisy line. Returns gt_serial, and the commands that
     the card has carried out. `slack` and `stops` are the slack of both programs in milliseconds.
     trace_explain has to explain the traces of both. `output` of gt_serial is then without its
@@ -391,9 +393,11 @@ def between(talk, noise, slack, stops, late=0):
     try:
         with tempfile.TemporaryDirectory() as folder:
             path = card_cases.table(folder, f"atr {LONG}\n{card_cases.APP}")
-            card = Program("serial_card", ["-v", *FAST, stops, ends[1].name, path])
+            words = ["-v", *FAST, stops, ends[1].name, path]
+            card = Program("serial_card", words, environment=environment)
             wire.pass_answer(len(LONG) // 2)
-            program = Program("gt_serial", ["-v", *FAST, slack, ends[0].name, *talk.words])
+            words = ["-v", *FAST, slack, ends[0].name, *talk.words]
+            program = Program("gt_serial", words, environment=environment)
             wire.start()
             program.end()
             wire.end()
@@ -437,7 +441,7 @@ def mild(fates, is_narrow):
 def at_random(seed):
     """On any line the answers are right, or a fault makes a true statement about its command."""
     noise = t1_card.Noise(seed, well=(0.97, 0.9, 0.75, 0.5)[seed % 4])
-    program, log = between(TALK, noise, 60, 40, 0.08)
+    program, log = between(TALK, noise, 60, 40, 0.08, NO_LEAKS)
     TALK.is_begun(log)
     assert TALK.answers.startswith(program.output), f"{program.output!r}, a wrong answer"
     if program.process.returncode == 0:

@@ -140,8 +140,8 @@ class Case:
                 return f"{self.name}: {line!r}, and not {wanted!r}"
         if len(said) != len(self.wanted):
             return f"{self.name}: {len(said)} lines, and not {len(self.wanted)}"
-        lines = map(without_words, out.splitlines() if is_text else [])
-        wide = [it for it in lines if len(it) > 100]
+        wide = [it for it in out.splitlines() if is_text and len(it) > 100]
+        wide = [it for it in wide if len(without_words(it)) > 100]
         return f"{self.name}: more than 100 columns: {wide[0]!r}" if wide else ""
 
     def leak(self, out, err):

@@ -12,10 +12,10 @@ LEXED = re.compile(
     | b?r(?P<raw>\#*)".*?"(?P=raw)
     | "(?:\\.|[^"\\])*"
     | '(?:\\[^']+|[^'\\\n])'
-    | .""",
+    | [^/"'br]+ | .""",
     re.S | re.X,
 )
-ANTT = re.compile(r"""(?P<line>(?<!\S)--(?=\s|$)[^\n]*)|"(?:\\.|[^"\\\n])*"|.""", re.S)
+ANTT = re.compile(r"""(?P<line>(?<!\S)--(?=\s|$)[^\n]*)|"(?:\\.|[^"\\\n])*"|[^"-]+|.""", re.S)
 MARK = re.compile(r"//[/!]|//|--|/\*+|\*/|\*|#")
 
 
@@ -44,15 +44,10 @@ def comments(path, text):
         yield from of_shell(text)
 
 
-def is_comment(found):
-    named = found.groupdict()
-    return (named.get("line") or named.get("block")) is not None
-
-
 def lexed(pattern, text):
     line, last = 1, 0
     for it in pattern.finditer(text):
-        if is_comment(it):
+        if it.lastgroup in ("line", "block"):
             line += text.count("\n", last, it.start())
             last = it.start()
             yield line, it[0]

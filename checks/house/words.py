@@ -133,8 +133,10 @@ def without_spans(text):
 
 
 def of_phrases(path, line, plain, phrases):
+    lower = plain.lower()
     for pattern, phrase, better in phrases:
-        for it in pattern.finditer(plain):
+        # the first word is found faster
+        for it in pattern.finditer(plain) if phrase.split()[0].lower() in lower else ():
             at = line + plain.count("\n", 0, it.start())
             yield Finding("phrase", path, at, phrase, f"'{phrase}': write {better}")
 

@@ -7,6 +7,7 @@ import sys
 import threading
 from contextlib import contextmanager
 from dataclasses import FrozenInstanceError
+from decimal import Decimal
 from types import SimpleNamespace
 from unittest.mock import Mock
 
@@ -25,7 +26,7 @@ SELECT = bytes.fromhex("00A4040007A000000003101000")
 
 
 def card():
-    return Card({AID: {0x5F20: b"JOE", 0x50: b"A" * 600}}, locked=[(AID, 0x50)])
+    return Card({AID: {0x5F20: b"JOE", 0x50: b"A" * 600}}, locked=iter([(AID, 0x50)]))
 
 
 @contextmanager
@@ -154,7 +155,7 @@ def test_what_is_wrong_is_refused_before_a_call(monkeypatch):
     assert terminal.answer() == begun
 
 
-@pytest.mark.parametrize("wrong", ["50", 5.0, None])
+@pytest.mark.parametrize("wrong", ["50", 5.0, None, Decimal("5.5")])
 def test_what_is_no_number_is_a_type_error(wrong):
     for call in [
         lambda: Terminal().begin(Get(wrong)),
@@ -201,7 +202,14 @@ def test_the_most_and_the_least_are_taken():
     assert card().plan("", 1) is card().plan("", 256) is None
 
 
+class Long(bytes):
+    def __len__(self):
+        return 40
+
+
 def test_any_bytes_like_object_is_read():
+    assert find(Long(b"P\0"), 0x50).encoded == b"P\0"
+    assert Exchange(Long(SELECT)).tpdu().data == SELECT[:-1]
     session = Session(card())
     assert session.run(Select(bytearray(AID))).status.is_ok
     assert session.run(Put(0x5F20, memoryview(b"xANNx")[1:4])).status.is_ok

@@ -104,8 +104,7 @@ def find(data: Bytes, *path: int) -> Optional[Object]:
     b'JOE'
     """
     kept, found, place = plain(data), ffi.new("gt_object *"), ffi.new("size_t *")
-    steps = [tag_number(tag) for tag in path]
-    code = lib.gt_find(kept, len(kept), steps, len(steps), found, place)
+    code = lib.gt_find(kept, len(kept), [*map(tag_number, path)], len(path), found, place)
     return None if checked(code, place, [lib.GT_NOT_FOUND]) else _object(found, kept)
 
 

@@ -81,12 +81,12 @@ class Card(Holder):
     """
 
     def __init__(self, tables: Tables, locked: Collection[tuple[bytes, int]] = ()) -> None:
+        pairs = {(plain(aid), tag_number(tag)) for aid, tag in locked}
         calls: list[tuple[Any, ...]] = [("new",)]
         for aid, values in dict(tables).items():
             calls.append(("app", *readable(aid)))
-            for tag, value in dict(values).items():
-                words = tag_number(tag), *readable(value), (plain(aid), tag) in locked
-                calls.append(("object", *words))
+            calls += [("object", tag_number(tag), *readable(value), (plain(aid), tag) in pairs)
+                      for tag, value in dict(values).items()]
         super().__init__("card", *calls, ("finish",))
 
     def tpdu(self, tpdu: Bytes) -> bytes:

@@ -1,6 +1,7 @@
 """Handles of the library, and what their calls take and return. Every other module uses it."""
 
 import contextlib
+from operator import index
 from typing import Any, Collection, Iterable, Iterator, TypeVar, Union, get_args
 
 from ._library import ffi, lib
@@ -23,8 +24,8 @@ def readable(data: Bytes) -> tuple[Any, int]:
     """Returns a bytes-like object as the library reads it, in place, and the number of its bytes.
     Raises `TypeError` for other objects."""
     # A memoryview is copied: if an exception's frames keep it, the collector may clear it before
-    # cffi returns its buffer.
-    kept = data if isinstance(data, (bytes, bytearray)) else plain(data)
+    # cffi returns its buffer. A derived class may have another length.
+    kept = data if type(data) in (bytes, bytearray) else plain(data)
     return kept if isinstance(kept, bytes) else ffi.from_buffer(BYTES, kept), len(kept)
 
 
@@ -46,8 +47,8 @@ def shown(record: Any) -> str:
 
 def within(value: int, least: int, most: int, what: str) -> int:
     """Returns a number from `least` to `most`. Raises `ValueError` for any other number, and
-    `TypeError` for what is not a number."""
-    if not least <= value <= most:
+    `TypeError` for what is no integer."""
+    if not least <= (value := index(value)) <= most:
         raise ValueError(f"{what} is {value}, not from {least} to {most}")
     return value
 

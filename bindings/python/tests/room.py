@@ -192,11 +192,11 @@ class Room:
 
 
 def too_long(*_):
-    raise TimeoutError("the run does not end")
+    raise AssertionError("the run does not end")
 
 
 def main_of(room, words):
-    """Runs the program in this process. Raises `TimeoutError` if it does not end in a minute."""
+    """Runs the program in this process. Fails if it does not end in a minute."""
     if str(STANDIN) not in sys.path:
         sys.path.insert(0, str(STANDIN))
     before, folder = dict(os.environ), os.getcwd()

@@ -498,6 +498,13 @@ def test_a_journal_that_can_not_be_written_is_named(tmp_path):
     assert room.run() == room.run("--new") == wanted and not room.held()
 
 
+def test_a_pipe_is_no_journal(tmp_path):
+    room = Room(tmp_path, 1)
+    os.mkfifo(tmp_path / "journal")
+    assert room.run() == refused("journal is not a journal: line 1 is no heading of one")
+    assert room.run("--new") == refused("File or stream is not seekable.")
+
+
 @pytest.mark.parametrize(
     "line",
     ["d\0ne 1 T", "done T", "done x T", "done 0 T", "done 3 T", "done -1 T", "", "done 2 T"]

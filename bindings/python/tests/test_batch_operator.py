@@ -146,7 +146,7 @@ class Terminal:
             assert time.monotonic() < end, self.text
             if select.select([self.ours], [], [], 0.1)[0]:
                 try:
-                    self.text += os.read(self.ours, 65536).decode()
+                    self.text += os.read(self.ours, 65536).decode(errors="replace")
                 except OSError:
                     break
         return self.text
@@ -168,12 +168,12 @@ def test_a_run_without_a_terminal_of_its_own_or_a_stream(tmp_path, without):
 
 def test_enter_writes_the_card_that_lies_in_the_reader(tmp_path):
     room = Room(tmp_path, 2)
-    room.environment["LIES"] = "yes"
+    room.environment.update(LIES="yes", PYTHONIOENCODING="utf-8")
     terminal = Terminal(room)
     terminal.read("or press Enter to write it")
     time.sleep(0.8)
     assert not room.held() and terminal.run.poll() is None
-    os.write(terminal.ours, b"\n")
+    os.write(terminal.ours, b"\xE4\n")  # not UTF-8
     assert "2 of 2 rows done" in terminal.read("to decide")
     assert terminal.run.wait(60) == 0
     assert sorted(room.held()) == [f"{room.names[0]}-0", f"{room.names[0]}-1"]
@@ -365,6 +365,8 @@ def test_reports(tmp_path):
     status, out, _ = room.run("--id=9F7F", "--report=day.html")
     assert status == 1 and listed(out) == {2: "failed"}
     assert room.run("--status", "--report=day.csv")[0] == 1
+    twice = room.run("--status", "--journal=journal", "--journal=journal")
+    assert twice == room.run("--status") and twice[1].endswith(", 1 to decide\n")
     text, page = (tmp_path / "day.html").read_text(), Page((tmp_path / "day.html").read_text())
     with open(tmp_path / "day.csv", newline="") as file:
         rows = list(csv.reader(file))

@@ -155,7 +155,7 @@ class Desk:
         # A job in the background must not read, nor one of another session than its terminal.
         with contextlib.suppress(OSError):
             if sys.stdin and sys.stdin.isatty() and os.tcgetpgrp(0) == os.getpgrp():
-                self.keys += bool(select.select([sys.stdin], [], [], 0)[0] and sys.stdin.readline())
+                self.keys += bool(select.select([sys.stdin], [], [], 0)[0] and os.read(0, 1 << 16))
 
 
 class Reader(threading.Thread):

@@ -55,6 +55,7 @@ def place_of(table: str) -> str:  # a pipe has only its name
 def heading_of(path: str) -> Optional[Heading]:
     """Reads a file's first line, or returns None if it is not that of a journal."""
     with contextlib.suppress(OSError, ValueError, TypeError), open(path, "rb") as file:
+        file.seek(0)  # not in a pipe, whose line may never come
         line = file.readline(1 << 16).decode("ascii")  # other lines have the names of readers
         if line.startswith(_MAGIC) and line.endswith("\n"):
             found = Heading(**json.loads(line[len(_MAGIC) :]))
@@ -80,7 +81,7 @@ def create(path: str, heading: Heading, only_looks: bool = False) -> None:
     the file exists, a crash has cut its heading: it has no row. `only_looks` changes nothing."""
     place, table = os.path.realpath(path), heading.table
     folder, beside = os.path.dirname(place), os.path.dirname(table)
-    with open(os.open(path, os.O_RDWR | os.O_CREAT, 0o600), "r+b", 0) as file:
+    with open(os.open(path, os.O_RDWR | os.O_CREAT, 0o600), "r+b") as file:
         fcntl.lockf(file, fcntl.LOCK_EX, 1, 0)
         begun = file.read(1 << 16).decode(errors="replace")
         if "\n" in begun or not _MAGIC.startswith(begun[: len(_MAGIC)]):

@@ -95,7 +95,7 @@ def opened(given: argparse.Namespace, rows: Rows) -> list[Journal]:
             create(path, heading, given.check)
         if given.check:
             return []
-    journals = [Journal(it, given.rows, len(rows)) for it in given.journal]
+    journals = [Journal(it, given.rows, len(rows)) for it in dict.fromkeys(given.journal)]
     for path, heading, begun in ((it.path, it.heading, it.rows) for it in journals):
         if given.part not in (None, (heading.at, heading.of)):
             raise ValueError(f"{path} is the journal of part {heading.at}/{heading.of}")

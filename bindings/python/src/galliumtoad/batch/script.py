@@ -154,8 +154,7 @@ def _fault_of_line(words: list[str], columns: list[str]) -> Optional[str]:
     if (first := words[0]) not in _KINDS:
         return f"`{first}` is no operation: it is one of {', '.join(_KINDS)}"
     if len(words) != len(_KINDS[first]):
-        has = counted(len(words) - 1, "word")
-        return f"`{first}` has {has}, not {len(_KINDS[first]) - 1}"
+        return f"`{first}` has {counted(len(words) - 1, 'word')}, not {len(_KINDS[first]) - 1}"
     for column in _COLUMN.findall(" ".join(words)):
         if (count := columns.count(column)) != 1:
             listed = ", ".join(map(repr, filter(None, columns))) or "no columns"

@@ -59,21 +59,26 @@ static const char *add_words(struct script *script, char *const *words, size_t c
     return fault;
 }
 
-/* Reads one line, which ends at a NUL; a NUL inside it is a character of no word. */
+/* Reads one line, which ends at a NUL; a NUL inside it is a character of no word, read as \x01. */
 static const char *add_line(struct script *script, size_t number, char *line, size_t n)
 {
     char *words[OPERATION_WORDS + 1];
-    size_t count = 0;
+    const bool has_nul = strlen(line) != n;
+    const char *fault;
+    size_t count = 0, i;
     bool is_of_words;
     if (line[0] == '#')
         return NULL;
     if (strncmp(line, "\xEF\xBB\xBF", 3) == 0)
         return refuse_step(script, number, OPERATION_UNKNOWN_WORD ": a byte order mark");
-    if (strlen(line) != n)
-        return refuse_step(script, number, OPERATION_UNKNOWN_WORD);
+    for (i = 0; has_nul && i < n; i++) {
+        if (line[i] == '\0')
+            line[i] = '\x01';
+    }
     while (count <= OPERATION_WORDS && (words[count] = text_word(&line)) != NULL)
         count++;
-    return count == 0 ? NULL : add(script, number, words, count, &is_of_words);
+    fault = count == 0 ? NULL : add(script, number, words, count, &is_of_words);
+    return fault == NULL && has_nul ? refuse_step(script, number, "bad hex") : fault;
 }
 
 /* Reads the lines of a text, each ended by an LF, or a CR and an LF; the last may lack its LF. */

@@ -167,7 +167,7 @@ def second_is_harmless():
         first = Program("gt_serial", words)
         await_opened(first.process.pid, far.name)
         second = Program("gt_serial", words)
-        look(second, second.end(), "", f"process {first.process.pid} has the tty\n", 1)
+        look(second, second.end(), "", f"process {first.process.pid} has '{far.name}'\n", 1)
         look(first, first.end(), "= 9000 6F098407A0000000031010\n", "", 0)
 
 

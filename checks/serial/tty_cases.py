@@ -431,14 +431,14 @@ def is_locked():
         set_to = line.settings()
         for name, others in (("gt_serial", words), ("serial_card", [line.name, TABLE])):
             second = Program(name, others)
-            look(second, second.end(), "", f"process {first.process.pid} has the tty\n", 1)
+            look(second, second.end(), "", f"process {first.process.pid} has '{line.name}'\n", 1)
         assert line.settings() == set_to, "the second program has set the tty"
         line.write(b"\x90\x00")
         look(first, first.end(), "= 9000\n", "", 0)
         # a lock by another kind of program counts, too
         fcntl.lockf(line.near, fcntl.LOCK_SH)
         third = Program("gt_serial", words)
-        look(third, third.end(), "", f"process {os.getpid()} has the tty\n", 1)
+        look(third, third.end(), "", f"process {os.getpid()} has '{line.name}'\n", 1)
         fcntl.lockf(line.near, fcntl.LOCK_UN)
         fourth = Program("gt_serial", words)
         play(Other(line), f"< 3B00 {SHORT_WORDS}{DONE}", card=True)
@@ -463,7 +463,8 @@ def keeps_others_out():
                 tty.await_note("rts off")
             play(Marking(tty.line), "< 3B00 " + SHORT_WORDS, card=True)
             second = Program(copy, words, user=user)
-            look(second, second.end(), "", f"process {first.process.pid} has the tty\n", 1)
+            has = f"process {first.process.pid} has '{tty.line.name}'\n"
+            look(second, second.end(), "", has, 1)
             opened = subprocess.run(["sh", "-c", f": < {tty.line.name}"], user=user, cwd="/",
                                     check=False, stderr=subprocess.DEVNULL)
             assert (opened.returncode == 0) == is_pseudo, f"opened: {opened.returncode}"

@@ -148,10 +148,10 @@ const char *port_set(struct port *port, unsigned long baud, bool is_odd)
     return told;
 }
 
-static const char *tell_holder(long process)
+static const char *tell_holder(const char *name, long process)
 {
-    snprintf(told, sizeof told, "process %ld has the tty", process);
-    return told;
+    snprintf(told, sizeof told, "process %ld has ", process);
+    return text_quoted(told, name, "");
 }
 
 /* The process that has locked a tty, or 0. The system's list of locks shows it without opening the
@@ -177,7 +177,7 @@ static long holder_of(const char *name)
 }
 
 /* Locks the tty against another of these programs. The lock names the process. */
-static const char *lock(const struct port *port)
+static const char *lock(const struct port *port, const char *name)
 {
     struct flock whole;
     memset(&whole, 0, sizeof whole);
@@ -186,7 +186,7 @@ static const char *lock(const struct port *port)
     if (fcntl(port->fd, F_SETLK, &whole) == 0)
         return NULL;
     if (fcntl(port->fd, F_GETLK, &whole) == 0 && whole.l_type != F_UNLCK && whole.l_pid > 0)
-        return tell_holder(whole.l_pid);
+        return tell_holder(name, whole.l_pid);
     return tell_error("the tty cannot be locked");
 }
 
@@ -203,14 +203,14 @@ const char *port_open(struct port *port, const char *name, unsigned long baud)
     const long holder = holder_of(name);
     const char *fault;
     if (holder > 0)
-        return tell_holder(holder);
+        return tell_holder(name, holder);
     memset(port, 0, sizeof *port);
     port->until = INT64_MAX;
     port->fd = open(name, O_RDWR | O_NOCTTY | O_NONBLOCK);
     if (port->fd < 0)
         return text_fault("the tty cannot be opened", name, strerror(errno));
     port->is_pseudo = is_pseudo(port->fd);
-    fault = isatty(port->fd) ? lock(port) : text_quoted("", name, " is not a tty");
+    fault = isatty(port->fd) ? lock(port, name) : text_quoted("", name, " is not a tty");
     if (fault == NULL && ioctl(port->fd, TCGETS2, &before) != 0)
         fault = tell_error("the tty does not return its settings");
     if (fault == NULL) {

@@ -13,13 +13,14 @@ import shutil
 import subprocess
 from pathlib import Path
 
-FUNCTION = re.compile(r'( *)(?:pub(?:\([^)]*\))? )?(?:(?:const|unsafe|extern "C") )*fn (\w+)')
+FUNCTION = re.compile(
+    r'( *)(?:pub(?:\([^)]*\))? )?(?:(?:const|unsafe|extern "C") )*(?:fn|macro_rules!) (\w+)')
 UNPROVED = re.compile(r"^fn \w+::(\S+): (?:no proof|not proved)(?:: )?(.*)", re.M)
 PARTS = ("src", "specs", "proofs")
 
 
 def enclosing(lines, at):
-    """The name of the function around line `at`, its indent and its line, or None."""
+    """The name of the function or macro around line `at`, its indent and its line, or None."""
     indent = len(lines[at]) - len(lines[at].lstrip())
     for number in range(at, -1, -1):
         found = FUNCTION.match(lines[number])
@@ -43,16 +44,28 @@ def owner(lines, at):
     return found[2].split("::")[-1] + (found[1] or "").split("::")[-1]
 
 
-def function_at(file, text, place):
+def function_at(folder, file, place):
     """The end of the name of the function at this place of a source file: that of a method begins
-    with its type, since the `impl` may be in another module."""
+    with its type, since the `impl` may be in another module. For a macro it is the first function
+    that uses it."""
     modules = [it for it in Path(file).with_suffix("").parts[1:] if it not in ("lib", "main")]
+    text = (folder / file).read_text(encoding="utf-8")
     lines, at = text.split("\n"), text.count("\n", 0, place)
     found = enclosing(lines, at)
     if found is None:
         return "::".join(modules)
     name, indent, start = found
+    if "macro_rules!" in lines[start]:
+        return first_use(folder, name)
     return "::".join([owner(lines, start), name] if indent else [*modules, name])
+
+
+def first_use(folder, macro):
+    for path in sorted(folder.glob("src/**/*.rt")):
+        found = re.search(rf"\b{macro}! ?[({{]", path.read_text(encoding="utf-8"))
+        if found:
+            return function_at(folder, path.relative_to(folder), found.start())
+    return ""
 
 
 class Edit:
@@ -62,7 +75,7 @@ class Edit:
         self.name, self.fault = name, fault
         text = (folder / fault.file).read_text(encoding="utf-8")
         start, _ = fault.piece(text)
-        self.functions = {function_at(fault.file, text, text.find(old, start))
+        self.functions = {function_at(folder, fault.file, text.find(old, start))
                           for old, _ in fault.pairs}
 
     def refusal(self, said):

@@ -114,6 +114,7 @@ impl Tap {
     /// there are any.
     pub fn hear_run(&mut self, from: End, bytes: &[u8]) -> usize
         ensures heard { self.new ≡ hears_all self.old from (take result bytes.now) }
+        ensures fits { result ≤ length bytes.now }
         ensures progress { 0 < length bytes.now → 0 < result }
         ensures all { (result ≡ length bytes.now) ⊎ (self.new.ended ≡ true) }
         ensures none_before { (k : ℕ) → 0 < k → k < result →

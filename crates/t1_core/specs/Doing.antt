@@ -3,6 +3,7 @@
 use Rattle.std.specs.Prelude.{◌≡◌, ◌<◌, ◌≤◌, ◌^◌, Bool, true, false, List, ℕ, [], ◌∷◌, ◌++◌, length, map, Option, Some, None}
 use Rattle.t1_core.specs.declared.applet.Applet.{Ghosts}
 use Rattle.t1_core.specs.declared.card.Reply.{Reply}
+use Rattle.t1_core.specs.Block.{Arrival, Came, I}
 use Rattle.t1_core.specs.CardSide.{Card, Did, Meaning, Turn, turn, no_requests, replies}
 
 abbrev pub commands_of : List Did → List (List ℕ)
@@ -92,6 +93,11 @@ Carries a Holds old new = (sent : List ℕ) → IsKeeping a.LIMIT old sent
     × DoesSome a.Does (a.standing old.card) did (a.standing new.card)
     × ((m : Meaning) (ran : List (List ℕ)) → IsOfSome m ran did
     → Holds m (after old ran sent) (after new (ran_with ran did) later))
+
+-- the next field of a command, not amid one beyond the limit: memory runs out for nothing else
+abbrev pub IsDue : {C : Type 0} → Arrival → EndOf C → Type 0
+IsDue (Came (I n more f)) e = (n ≡ e.at.due) × (e.at.rest ≡ []) × (e.over ≡ true → more ≡ false)
+IsDue other e = ⊥
 
 -- the end makes this step, and replies
 abbrev pub Steps : {C : Type 0} (a : Ghosts C) → (Meaning → Card → Turn) → EndOf C → Reply

@@ -46,5 +46,18 @@ adds_found g Card role (Valid (Response Resynch)) = newly Nothing Card
 adds_found g from role (Valid (Response Abort)) = newly Nothing from
 adds_found g from role other = g
 
+-- a field is added
+abbrev pub is_added : Gathered → End → Role → Bool
+is_added g from (role.Field first last) = true
+is_added g from (role.Repetition last) = is_end from g.from
+is_added g from other = false
+
+abbrev pub adds_field_of : Gathered → End → Role → Found → Bool
+adds_field_of g from role (Valid (I number more field)) = is_added g from role
+adds_field_of g from role other = false
+
+abbrev pub adds_field : Gathered → Item → Bool
+adds_field g i = adds_field_of g i.from i.role i.found
+
 abbrev pub adds : Gathered → Item → Gathered
 adds g i = adds_found g i.from i.role i.found

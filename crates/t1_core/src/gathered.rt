@@ -1,6 +1,6 @@
 //! The commands and responses that the items of a tap make up.
-ghost use Rattle.std.specs.Prelude.{◌≡◌, ◌++◌, OnOk, OnErr};
-ghost use Rattle.t1_core.specs.Gathering.{adds, gathers, newly, with_field};
+ghost use Rattle.std.specs.Prelude.{◌≡◌, ◌++◌, true, OnOk, OnErr};
+ghost use Rattle.t1_core.specs.Gathering.{adds, adds_field, gathers, is_added, newly, with_field};
 ghost use Rattle.t1_core.specs.Hearing.{told};
 ghost use Rattle.t1_core.specs.declared.gathered.Progress.TheVariants.{Nothing, Unknown};
 ghost use Rattle.t1_core.specs.declared.reading.End.TheVariants.{Terminal};
@@ -90,11 +90,12 @@ impl Gathered {
     /// Adds the next item of the tap.
     ///
     /// # Errors
-    /// - `AllocError`: memory ran out; the command or response is `Unknown`. Ignore its later
-    ///   fields: they would pass for all of it.
+    /// - `AllocError`: memory for a field ran out; the command or response is `Unknown`. Ignore its
+    ///   later fields: they would pass for all of it.
     pub fn add(&mut self, item: Item<'_>) -> Result<(), AllocError>
         ensures ok { OnOk result (self.new ≡ adds self.old (told item.entry)) }
         ensures err { OnErr result (self.new ≡ newly Unknown item.entry.from) }
+        ensures memory { OnErr result (adds_field self.old (told item.entry) ≡ true) }
     {
         match item.found {
             Found::Valid(Block::Information { info, .. }) => {
@@ -114,6 +115,7 @@ impl Gathered {
     fn gather(&mut self, from: End, role: Role, field: &[u8]) -> Result<(), AllocError>
         ensures ok { OnOk result (self.new ≡ gathers self.old from role field.now) }
         ensures err { OnErr result (self.new ≡ newly Unknown from) }
+        ensures memory { OnErr result (is_added self.old from role ≡ true) }
     {
         let (place, last) = match role {
             Role::Field { first: true, last } => (0, last),

@@ -5,7 +5,7 @@ ghost use Rattle.std.specs.Fn.{FnOnceReturnsAtMut, FnOnceTakesAtMut};
 ghost use Rattle.t1_core.specs.Block.{Came, is_filled, is_size, said};
 ghost use Rattle.t1_core.specs.BlockBytes.{arrival_of, info_of};
 ghost use Rattle.t1_core.specs.CardSide.{card_after, replies, serves};
-ghost use Rattle.t1_core.specs.Doing.{Goes};
+ghost use Rattle.t1_core.specs.Doing.{Goes, IsDue};
 ghost use Rattle.t1_core.specs.Patience.{Asks, Hears, Misses, Takes, TakesAsking, awaits, command_in, seen};
 ghost use Rattle.t1_core.specs.declared.block.Control.TheVariants.{Abort, Ifs, Resynch};
 ghost use Rattle.t1_core.specs.declared.pcb.BlockReason.TheVariants.{Edc, Other};
@@ -144,6 +144,8 @@ impl<C: Applet> PatientCard<C> {
     /// waits again.
     pub fn take(&mut self, block: &mut Receiver) -> Option<Reply>
         ensures hears { Hears C.Applet block.old self.old result self.new }
+        ensures memory { self.old.asked ≡ None → result ≡ None →
+            IsDue (arrival_of block.old) self.old.end }
         ensures emptied { block.new ≡ [] }
     {
         let Some(multiple) = self.asked else {
@@ -160,7 +162,8 @@ impl<C: Applet> PatientCard<C> {
     /// again: the block is still kept. `awaits` must hold.
     pub fn again(&mut self) -> Option<Reply>
         requires { awaits self.old ≡ true }
-        ensures { Takes C.Applet self.old.kept self.old result self.new }
+        ensures takes { Takes C.Applet self.old.kept self.old result self.new }
+        ensures memory { result ≡ None → IsDue (arrival_of self.old.kept) self.old.end }
     {
         self.give()
     }
@@ -168,7 +171,8 @@ impl<C: Applet> PatientCard<C> {
     /// Gives the end the kept block, while no request is in progress.
     fn give(&mut self) -> Option<Reply>
         requires { self.old.asked ≡ None }
-        ensures { Takes C.Applet self.old.kept self.old result self.new }
+        ensures takes { Takes C.Applet self.old.kept self.old result self.new }
+        ensures memory { result ≡ None → IsDue (arrival_of self.old.kept) self.old.end }
     {
         match self.end.take_bytes(self.kept.bytes()) {
             Ok(reply) => {

@@ -21,8 +21,8 @@ from room import (AID, FULL, HERE, SCRIPT, STANDIN, Room, ended, interruptible, 
 sys.path.append(str(HERE.parents[2] / "checks/program"))
 import operations  # noqa: E402
 
-CARDS = int(os.environ.get("CARDS", 500))
-KILLS = int(os.environ.get("KILLS", 20))
+CARDS = int(os.environ.get("CARDS", 250))
+KILLS = int(os.environ.get("KILLS", 10))
 
 # Holds the journal's lock for a while, and then takes the first row.
 HOLDS = """import fcntl, os, time

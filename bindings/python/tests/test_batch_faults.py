@@ -15,7 +15,7 @@ from room import AID, HERE, SCRIPT, Room, ended, refused, steps_of, told
 
 ROW = {"name": "PERSON 1", "code": "00000001"}
 VALUES = {0x5F20: b"PERSON 1", 0x9F36: bytes.fromhex("00000001"), 0x50: b"A" * 300}
-LOSSES = 3 if int(os.environ.get("CARDS", 500)) < 100 else 8
+LOSSES = 3 if int(os.environ.get("CARDS", 250)) < 100 else 8
 
 
 class Pulled:

@@ -1,4 +1,4 @@
-//! Ten thousand random sessions over a line that also doubles and delays blocks, which the proof
+//! Three thousand random sessions over a line that also doubles and delays blocks, which the proof
 //! leaves out.
 
 use super::line::{LIMIT, Line, Random};
@@ -74,7 +74,7 @@ fn session(rt: &(impl Abort + AllocGlobal), seed: u64) -> Option<Fault> {
 #[test]
 fn no_command_is_carried_out_twice(rt: HostRuntime) {
     let mut counts = [0; 5];
-    for seed in 0..10_000 {
+    for seed in 0..3_000 {
         let Some(fault) = session(&rt, seed) else {
             counts[0] += 1;
             continue;
@@ -85,5 +85,5 @@ fn no_command_is_carried_out_twice(rt: HostRuntime) {
         }
     }
     // Each ending occurred.
-    assert!(&rt; counts.iter().all(|count| *count > 100), "{counts:?}");
+    assert!(&rt; counts.iter().all(|count| *count > 30), "{counts:?}");
 }

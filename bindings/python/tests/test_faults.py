@@ -616,7 +616,8 @@ def test_a_byte_after_the_last_one_does_not_change(kind, t, expected):
 
 WRONG = ["command, mute", "command 1", "mute", "every C, mute", "command 1, nonsense", "p 2, mute",
          "command 1, status 5000", "command 1, cut", "command 1, wtx 256", "command 1, byte 0 flip",
-         "command 1, byte 1 insert", "command 1, data A", "after x, mute", "command 1, delay 5"]
+         "command 1, byte 1 insert", "command 1, data A", "after x, mute", "command 1, delay 5",
+         *(f"p 1, {it}" for it in ("nulls 10000000", "delay 10000000s", "byte 10000000 flip"))]
 
 
 @pytest.mark.parametrize("line", WRONG)

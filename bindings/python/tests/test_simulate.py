@@ -252,6 +252,12 @@ def test_a_reset_by_a_fault_at_vpcd(vpcd):
     assert answers == ["610b", "6985", "610b"] and len(it.struck) == 1
 
 
+@pytest.mark.parametrize("words", [["--seed", "\u0661"], ["--seed", "1_0"], ["--baud", " 9600"]])
+def test_a_number_of_other_characters_is_refused(files, words):
+    with pytest.raises(SystemExit):
+        main(["--pty", *files(), *words])
+
+
 def test_the_seed(files, monkeypatch):
     """It is that of the faults, and 0 if none is given."""
     found = []
@@ -372,6 +378,7 @@ def test_files_and_ports_that_are_missing(tmp_path, capsys):
     assert main(["--table", table, "--tty", "/none"]) == 1
     assert capsys.readouterr().err.count("No such file") == 2
     ports = ("localhost", "localhost:", "localhost:vpcd", "localhost:\u00b2", "localhost:65536")
+    ports += ("localhost:\u0661", "localhost:1_0", "localhost: 1")
     for address in (*ports, f"localhost:{2**64}", "localhost:-1", "a" * 70 + ":1"):
         assert main(["--table", table, "--vpcd", address]) == 2
         assert f"HOST:PORT is expected: {address}: " in capsys.readouterr().err

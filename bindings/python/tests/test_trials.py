@@ -2,6 +2,7 @@
 
 import contextlib
 import json
+import resource
 import signal
 import subprocess
 import sys
@@ -71,6 +72,13 @@ def test_a_process_that_leaves_its_group_holds_nothing_up(tmp_path, monkeypatch)
     assert (found["verdict"], found["said"]) == ("hung", "it says \\xc3\\xbc")
 
 
+def test_a_terminal_that_prints_without_end_takes_no_memory(tmp_path):
+    before, made = resource.getrusage(resource.RUSAGE_SELF).ru_maxrss, tmp_path / "made.json"
+    words = ["--only", "select refused", "--limit", "2", "--json", str(made), "--", "yes", "{tty}"]
+    assert main(words) == 1 and json.loads(made.read_text())[0]["verdict"] == "hung"
+    assert resource.getrusage(resource.RUSAGE_SELF).ru_maxrss < before + (1 << 18)
+
+
 def test_an_interrupt_ends_the_terminal_too(tmp_path):
     words = ["--only", "select refused", "--", "sh", "-c", "echo $$ > made; sleep 100", "{tty}"]
     run = subprocess.Popen([sys.executable, "-m", "galliumtoad.trials", *words], cwd=tmp_path,
@@ -133,7 +141,10 @@ def test_what_can_be_tried():
 
 def test_other_words(capsys):
     assert main(["--", "true"]) == 2 and "neither" in capsys.readouterr().err
-    for limit in ("nan", "inf", "0.09", "86401"):
+    for words in ("--limit=nan", "--limit=1e1", "--limit=\u0661", "--protocol=\u0661"):
+        with pytest.raises(SystemExit):
+            main([words, "--", "true", "{tty}"])
+    for limit in ("0.09", "86401"):
         assert main(["--limit", limit, "--", "true", "{tty}"]) == 2
         assert f"--limit is {limit}" in capsys.readouterr().err.replace(".0,", ",")
     assert main(["--list"]) == 0 and capsys.readouterr().out.count("\n\n") == 59

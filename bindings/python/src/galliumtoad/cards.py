@@ -1,5 +1,4 @@
-"""What card `galliumtoad.simulate` has: data objects of a table, an application in Python, one in a
-program of any language, or the answers of a capture."""
+"""Cards for `galliumtoad.simulate`: of a table, of an application, of a program, of a capture."""
 
 import atexit
 import contextlib
@@ -29,8 +28,7 @@ WAY, RESPONSE = "(to|from)-card", f"(?:((?:[0-9A-F]{{2}}){{1,4096}}) )?({STATUS}
 
 
 def read_table(path: str) -> tuple[Card, bytes]:
-    """Reads the lines `app`, `object`, `locked` and `atr` of a file. Returns the card and its
-    answer to reset. Raises `Mistake`."""
+    """Reads a card from a file. Returns it and its answer to reset. Raises `Mistake`."""
     tables, locked, atr = dict[bytes, dict[int, bytes]](), set[tuple[bytes, int]](), b""
     lines = mistakes(path)(Path(path).read_bytes)().decode("latin-1").split("\n")
     for line, text in enumerate(lines, 1):
@@ -58,8 +56,7 @@ def status_of(digits: str) -> int:
 
 
 def application(name: str) -> Application:
-    """Makes an object of a class, MODULE:CLASS. Raises `Mistake`, also later: for a result that no
-    application may return, and for an error that else ends the line, or is a status."""
+    """Makes an object of MODULE:CLASS. Raises `Mistake`, also later, for its errors and results."""
     if not re.fullmatch(".+:.+", name):
         raise Mistake(f"{name} is not MODULE:CLASS")
     sys.path.insert(0, "")  # the folder of the program's user
@@ -184,8 +181,7 @@ class Replay(Application):
             raise Mistake(f"{path}: no command with an answer")
 
     def take(self, it: Object, session: list[Object]) -> None:
-        """Takes a TPDU of the capture. The card itself answers 61XX and 6CXX, GET RESPONSE after
-        the one, and the same command after the other."""
+        """Takes a TPDU. The card itself answers GET RESPONSE, and the same command after 6CXX."""
         it["sent"] = "".join(it[name] for name in ("cla", "ins", "p1", "p2", "sent"))
         last = session[-1] if session else {"status": ""}
         waits = last["status"][:2]

@@ -1,5 +1,4 @@
-"""Faults of a card, one a line: when it strikes, and what it does. Only this module changes, drops
-and inserts bytes that a card sends."""
+"""Faults of a card, one a line. Only this module changes, drops and inserts a card's bytes."""
 
 import contextlib
 import random
@@ -13,10 +12,11 @@ ANYWHERE, LINE, T0, T1, ECHO = "anywhere", "a line", "a line at T=0", "a line at
 GET_RESPONSE, OK, MORE = b"\xC0", b"\x90\x00", b"\x61\x10"
 # The forms of the words in capitals below, and what reads them.
 FORMS: dict[str, tuple[str, Callable[[str], Any]]] = {
-    "N": ("[0-9]+", int), "PLACE": ("[1-9][0-9]*", int), "CHANCE": (r"0?\.[0-9]+|1|0", float),
-    "BYTE": ("25[0-5]|2[0-4][0-9]|1?[0-9]?[0-9]", int), "XX": ("[0-9A-F]{2}", bytes.fromhex),
-    "HEX": ("(?:[0-9A-F]{2})+", bytes.fromhex), "SW": ("[69][0-9A-F]{3}", bytes.fromhex),
-    "SECONDS": (r"[0-9]+(?:\.[0-9]+)?s", lambda text: float(text[:-1])),
+    "N": ("[0-9]{1,7}", int), "PLACE": ("[1-9][0-9]{,6}", int),
+    "CHANCE": (r"0?\.[0-9]+|1|0", float), "XX": ("[0-9A-F]{2}", bytes.fromhex),
+    "BYTE": ("25[0-5]|2[0-4][0-9]|1?[0-9]?[0-9]", int), "SW": ("[69][0-9A-F]{3}", bytes.fromhex),
+    "HEX": ("(?:[0-9A-F]{2})+", bytes.fromhex),
+    "SECONDS": (r"[0-9]{1,7}(?:\.[0-9]+)?s", lambda text: float(text[:-1])),
 }
 # When a fault strikes: at this command, or at what fetches its response.
 WHENS: dict[str, Callable[[Any, Any], Any]] = {
@@ -27,8 +27,7 @@ WHENS: dict[str, Callable[[Any, Any], Any]] = {
     "p CHANCE": lambda now, chance: now.chance() < chance,
 }
 DATA = ("data HEX", "cut N", "add HEX", "flip N", "wrong tag")
-# Where a fault can happen, and what it makes of data, of a status, of the pauses before an answer,
-# or of what a line carries. It makes True if the card does something else.
+# Where a fault can happen, and what it makes of what the card sends, or True for anything else.
 KINDS: dict[str, tuple[str, Callable[..., Any]]] = {
     "data HEX": (ANYWHERE, lambda data, new: new),
     "cut N": (ANYWHERE, lambda data, count: data[: max(len(data) - count, 0)]),
@@ -88,6 +87,11 @@ class Fault(NamedTuple):
     values: list[Any]
     place: str
     change: Callable[..., Any]
+
+
+def number(text: str) -> Any:
+    """Reads a number of an option, of the digits 0 to 9 and a point. Raises `ValueError`."""
+    return (float if "." in text else int)(text if re.fullmatch(r"[0-9]+(\.[0-9]+)?", text) else "")
 
 
 def matched(table: Iterable[str], words: str, wrong: str) -> tuple[str, list[Any]]:

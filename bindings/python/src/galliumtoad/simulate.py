@@ -1,5 +1,4 @@
-"""A card with faults, for tests of terminals: at vsmartcard's vpcd, at a serial line, or in this
-process. `python3 -m galliumtoad.simulate --help` shows the program."""
+"""A card with faults, for tests of terminals: at vpcd, at a serial line, or in this process."""
 
 import argparse
 import contextlib
@@ -20,7 +19,7 @@ from . import (Application, Atr, AtrError, Card, Code, Command, CommandError, Ed
                Pps, PpsError)
 from .cards import (LEAST_ATR, LOOKS_EVERY, Program, Replay, application, next_byte, read_table,
                     status_of)
-from .faults import ECHO, LINE, OK, T0, T1, Faults, Gone, Mistake, block, mistakes, read
+from .faults import ECHO, LINE, OK, T0, T1, Faults, Gone, Mistake, block, mistakes, number, read
 
 VPCD = "localhost:35963"
 POWER_OFF, POWER_ON, RESET, GET_ATR = (bytes([it]) for it in (0, 1, 2, 4))  # vpcd's own messages
@@ -32,11 +31,10 @@ TURNED = bytes(int(f"{byte:08b}"[::-1], 2) ^ 0xFF for byte in range(256))  # inv
 
 
 class Simulator(contextlib.ExitStack):
-    """A card with an answer to reset and faults. In this process it is a transport for a
-    `Terminal`: of whole commands if it is an `OwnCard`, or if the answer to reset offers another
+    """A card with an answer to reset and faults, until the end of `with`. In this process it is a
+    transport: of whole commands if it is an `OwnCard`, or if the answer to reset offers another
     protocol than T=0 first, else of TPDUs. It raises `Gone` if the card is mute or has no power.
-    `carried_out` gets what reaches the card, once also with the fault `twice`. The end of `with`
-    frees the card.
+    `carried_out` gets what reaches the card, once also with the fault `twice`.
 
     >>> with Simulator(Card({bytes(5): {}}), faults=Faults(read("p 1, status 6A82"))) as reader:
     ...     reader(bytes.fromhex("00A40400050000000000")).hex()
@@ -290,7 +288,7 @@ def connected(address: str) -> socket.socket:
     """Connects to vpcd. Raises `OSError`, and `Mistake` for an address without a port."""
     host, _, port = address.rpartition(":")
     with mistakes(f"argument --vpcd: HOST:PORT is expected: {address}", ValueError):
-        return socket.create_connection((host or "localhost", range(65536).index(int(port))))
+        return socket.create_connection((host or "localhost", range(65536).index(number(port))))
 
 
 def talk_vpcd(of: Simulator, line: socket.socket, tell: Callable[[str], object]) -> None:
@@ -350,10 +348,10 @@ def parser() -> argparse.ArgumentParser:
     place("--tty", metavar="PATH", help="a serial line")
     add("--atr", type=bytes.fromhex, metavar="HEX", help="answer to reset; else the card's or 3B00")
     add("--faults", metavar="FILE", help="lines WHEN, WHAT, as `command 2, cut 1`")
-    add("--seed", type=int, default=0, help="the seed of faults `p CHANCE`; without it 0")
+    add("--seed", type=number, default=0, help="the seed of faults `p CHANCE`; without it 0")
     add("-v", action="store_true", help="prints the dialogue for trace_explain (vpcd: --tpdu)")
     add("--no-echo", action="store_true", help="with --pty: no echo; without it there is one")
-    add("--baud", type=int, default=9600, choices=[9600, 19200, 38400, 57600, 115200],
+    add("--baud", default="9600", choices=["9600", "19200", "38400", "57600", "115200"],
         help="with --tty: its rate at a reset; without it 9600")
     add("--reset", choices=SIGNALS, default="", help="with --tty: the line that holds the card in "
         "reset while it is on; without it the only reset is the start")
@@ -378,7 +376,7 @@ def main(words: Optional[list[str]] = None) -> int:
             elif given.pty:
                 serve_pty(simulator, not given.no_echo, lambda name: print(name, flush=True))
             else:
-                serve_tty(simulator, given.tty, given.baud, given.reset)
+                serve_tty(simulator, given.tty, int(given.baud), given.reset)
     except (Mistake, OSError, termios.error) as why:
         print(why, file=sys.stderr)
         return 2 if isinstance(why, Mistake) else 1

@@ -13,11 +13,12 @@ import time
 from dataclasses import asdict, dataclass
 from pathlib import Path
 from queue import Empty, SimpleQueue
+from select import select
 from subprocess import DEVNULL, PIPE, STDOUT, Popen, TimeoutExpired
-from typing import Optional
+from typing import Any, Optional
 
 from . import Card
-from .faults import ANYWHERE, T1, Faults, Mistake, read
+from .faults import ANYWHERE, T1, Faults, Mistake, number, read
 from .pages import begin
 from .simulate import VPCD, Simulator, connected, serve_pty, talk_vpcd
 
@@ -40,8 +41,7 @@ serial line. Its exit status is 0 if all of that succeeded."""
 @dataclass
 class Trial:
     """A fault of the list: its lines, its clause and what a good terminal does. If `is_unseen`, no
-    terminal can see it, and no verdict counts. The rest is what a terminal made of it: `unmet` if
-    the fault did not strike, and nothing worse happened."""
+    terminal can see it. The rest is what a terminal made of it, `unmet` if it did not strike."""
 
     name: str
     faults: str
@@ -98,10 +98,9 @@ class Run(Simulator):
 
 
 def tried(trial: Trial, given: argparse.Namespace) -> None:
-    """Lets a terminal do the job with this fault, once pcscd has seen the card in vpcd's reader, or
-    over a pseudo terminal. Raises `OSError`."""
-    run, begun, ready = Run(trial, given.protocol), time.monotonic(), SimpleQueue[str]()
-    program: Optional[Popen[str]] = None
+    """Lets a terminal do the job with this fault, once its card is there. Raises `OSError`."""
+    run, begun, ready = Run(trial, int(given.protocol)), time.monotonic(), SimpleQueue[str]()
+    program: Any = None
     line = None if given.is_line else connected(given.vpcd)
     thread = threading.Thread(daemon=True, target=lambda: (
         talk_vpcd(run, line, ready.put) if line else serve_pty(run, True, ready.put)))
@@ -110,13 +109,15 @@ def tried(trial: Trial, given: argparse.Namespace) -> None:
         told = {**WORDS, "reader": given.reader, "tty": ready.get(timeout=AWAIT_READER)}
         words = [re.sub(r"\{(\w+)\}", lambda it: told.get(str(it[1]), str(it[0])), word)
                  for word in given.terminal]
-        program = Popen(words, stdin=DEVNULL, stdout=PIPE, stderr=STDOUT, encoding="ascii",
-                        errors="backslashreplace", start_new_session=True)
-        output, trial.status = program.communicate(timeout=given.limit)[0], program.returncode
+        program = Popen(words, 0, stdin=DEVNULL, stdout=PIPE, stderr=STDOUT, start_new_session=True)
+        end, out, output, it = time.monotonic() + given.limit, program.stdout, b"", b"begun"
+        while it and (left := end - time.monotonic()) > 0 and select([out], [], [], left)[0]:
+            output = (output + (it := out.read(65536)))[-(1 << 20) :]  # it may print without end
+        trial.status = program.wait(max(end - time.monotonic(), 0))
     except Empty:
         raise OSError(f"the reader at {given.vpcd} does not see the card") from None
-    except TimeoutExpired as why:  # a process may have left its group, and never end
-        output = (why.output or b"").decode("ascii", "backslashreplace")
+    except TimeoutExpired:
+        pass
     finally:
         if program and program.returncode is None:
             os.killpg(program.pid, signal.SIGKILL)
@@ -124,8 +125,9 @@ def tried(trial: Trial, given: argparse.Namespace) -> None:
         run.is_over.set()
         thread.join()
         time.sleep(GONE_AFTER if line else 0)
-    lines = [it for it in output.splitlines() if WORDS["value"] not in it] or [""]
-    trial.verdict, trial.said = run.verdict(trial.status, output), lines[-1][:200]
+    text = output.decode("ascii", "backslashreplace")
+    lines = [it for it in text.splitlines() if WORDS["value"] not in it] or [""]
+    trial.verdict, trial.said = run.verdict(trial.status, text), lines[-1][:200]
 
 
 def as_html(results: list[Trial]) -> str:
@@ -143,8 +145,8 @@ def parser() -> argparse.ArgumentParser:
                                  description="Lets a terminal do a job with cards that misbehave.")
     it.add_argument("--vpcd", default=VPCD, metavar="HOST:PORT", help=f"for {{reader}}; {VPCD}")
     it.add_argument("--reader", default="Virtual PCD 00 00", help="{reader}; else %(default)s")
-    it.add_argument("--protocol", type=int, choices=[0, 1], default=0, help="T if both fit; 0")
-    it.add_argument("--limit", type=float, default=60, metavar="S",
+    it.add_argument("--protocol", choices=["0", "1"], default="0", help="T if both fit; 0")
+    it.add_argument("--limit", type=number, default=60, metavar="S",
                     help="seconds for a job, 0.1 to 86400; without it 60")
     it.add_argument("--only", metavar="WORD", default="", help="runs those with WORD in their name")
     it.add_argument("--list", action="store_true", help="prints all trials, runs none")

@@ -1,4 +1,3 @@
-"""Personalises cards: `script` is what goes to them, `journal` what became of each row, `desk` a
-run, `report` the sum of it all."""
+"""Personalises cards: their `script`, the `journal` of each row, the `desk`, and the `report`."""
 
 from .program import main as main

@@ -6,6 +6,7 @@ import sys
 from typing import Iterator, Optional
 
 from . import report
+from ..faults import number
 from ..handle import within
 from .journal import Heading, Journal, create, place_of, refuse_a_second
 from .script import Rows, check_of, steps_of, tag
@@ -22,7 +23,7 @@ def part(text: str) -> tuple[int, int]:
 
 
 def count(text: str) -> int:
-    return within(int(text if text.encode().isdigit() else ""), 1, sys.maxsize, "a count")
+    return within(number(text), 1, sys.maxsize, "a count")
 
 
 def parsed(words: Optional[list[str]]) -> argparse.Namespace:

@@ -154,20 +154,19 @@ started at end.Terminal m = behind (begun at).gives
     (continued (begun at).at end.Terminal m (opens end.Terminal m))
 started at end.Card m = continued at end.Card m (opens end.Card m)
 
--- A command and its answer in one line. If as many data as P3 says are before the status, they are
--- those of the end that sends data under this INS. If no standard says which end that is, all bytes
--- count as a command, which has more than Lc says.
+-- A command and its answer in one line. Data before the status are those of the end that sends data
+-- under this INS, the terminal's as many as P3 says. If they are not, or no standard says which end
+-- that is, all bytes count as a command without an answer.
 abbrev pub len_with : Option Direction → ℕ → ℕ → ℕ
-len_with (Some ToCard) p3 all = p3 + 5
+len_with (Some ToCard) p3 all = if nat_lt all (p3 + 7) then all else p3 + 5
 len_with (Some FromCard) p3 all = 5
 len_with None p3 all = if p3 == 0 then 5 else all
 
 abbrev pub command_len : List ℕ → ℕ
 command_len bytes = if nat_lt (length bytes) 5 then length bytes
-    else if nat_le (slice_index bytes 4 + 7) (length bytes)
-    then len_with (by_standard (slice_index bytes 0) (slice_index bytes 1)) (slice_index bytes 4)
+    else if nat_lt (length bytes) 8 then 5
+    else len_with (by_standard (slice_index bytes 0) (slice_index bytes 1)) (slice_index bytes 4)
     (length bytes)
-    else 5
 
 abbrev pub both : LogAt → List ℕ → Step
 both at bytes = record {

@@ -28,11 +28,13 @@ interindustry ins = if is_among ins interindustry_from_card then Some FromCard
 -- Classes 80 to 8F. EMV (4.3, Book 3, 6.5): CARD BLOCK, APPLICATION UNBLOCK and BLOCK, PIN
 -- CHANGE/UNBLOCK, GET PROCESSING OPTIONS, GENERATE AC. A UICC (ETSI TS 102 221, 10.1.2): TERMINAL
 -- PROFILE and RESPONSE, INCREASE, TERMINAL CAPABILITY, ENVELOPE, and FETCH, whose data the card
--- sends. Its STATUS (F2) is GET STATUS to other cards, which takes data.
+-- sends. Its STATUS (F2) is GET STATUS to other cards, which takes data. GlobalPlatform (Card
+-- Specification 2.3, 11): INITIALIZE UPDATE, EXTERNAL AUTHENTICATE, PUT KEY, STORE DATA, DELETE,
+-- INSTALL, LOAD, SET STATUS.
 abbrev pub proprietary : ℕ → Option Direction
 proprietary ins = if ins == 0x12 then Some FromCard
-    else if is_among ins (0x10 ∷ 0x14 ∷ 0x16 ∷ 0x18 ∷ 0x1E ∷ 0x24 ∷ 0x32 ∷ 0xA8 ∷ 0xAA ∷ 0xAE
-    ∷ 0xC2 ∷ []) then Some ToCard else None
+    else if is_among ins (0x10 ∷ 0x14 ∷ 0x16 ∷ 0x18 ∷ 0x1E ∷ 0x24 ∷ 0x32 ∷ 0x50 ∷ 0x82 ∷ 0xA8
+    ∷ 0xAA ∷ 0xAE ∷ 0xC2 ∷ 0xD8 ∷ 0xE2 ∷ 0xE4 ∷ 0xE6 ∷ 0xE8 ∷ 0xF0 ∷ []) then Some ToCard else None
 
 -- A SIM card's class (3GPP TS 51.011, 9.2): the card sends data under FETCH, READ BINARY, READ
 -- RECORD and STATUS, and under GET RESPONSE, which `everywhere` lists.

@@ -39,9 +39,9 @@ pub type Instruction = (&'static str, Direction, Parts);
 
 /// Returns the instruction with this CLA and INS; `None` if the program does not know it.
 ///
-/// CLA `00` to `7F` are the classes of ISO/IEC 7816-4, `80` to `8F` those of EMV and of a UICC, and
-/// `A0` is that of a SIM card. If the class has no such INS, SELECT, GET RESPONSE, GET DATA and PUT
-/// DATA are read alike in every class (profile).
+/// CLA `00` to `7F` are the classes of ISO/IEC 7816-4, `80` to `8F` those of EMV, a UICC and
+/// GlobalPlatform, and `A0` is that of a SIM card. If the class has no such INS, SELECT, GET
+/// RESPONSE, GET DATA and PUT DATA are read alike in every class (profile).
 pub fn instruction(cla: u8, ins: u8) -> Option<Instruction>
     ensures { way_in result ≡ by_standard cla ins }
 {
@@ -117,8 +117,9 @@ fn interindustry(ins: u8) -> Option<Instruction>
     })
 }
 
-/// Returns an instruction of the classes `80` to `8F`: of EMV (4.3, Book 3, 6.3.2), or of a UICC
-/// (ETSI TS 102 221, 10.1.2). No INS is in both.
+/// Returns an instruction of the classes `80` to `8F`: of EMV (4.3, Book 3, 6.3.2), of a UICC (ETSI
+/// TS 102 221, 10.1.2), or of GlobalPlatform (Card Specification 2.3, 11). Only `F2` is in two of
+/// them, and left out: STATUS of a UICC, and GET STATUS.
 fn proprietary(ins: u8) -> Option<Instruction>
     ensures { way_in result ≡ proprietary ins }
 {
@@ -131,10 +132,18 @@ fn proprietary(ins: u8) -> Option<Instruction>
         0x1E => ("APPLICATION BLOCK", ToCard, Others),
         0x24 => ("PIN CHANGE/UNBLOCK", ToCard, Others),
         0x32 => ("INCREASE", ToCard, Others),
+        0x50 => ("INITIALIZE UPDATE", ToCard, Others),
+        0x82 => ("EXTERNAL AUTHENTICATE", ToCard, Others),
         0xA8 => ("GET PROCESSING OPTIONS", ToCard, Others),
         0xAA => ("TERMINAL CAPABILITY", ToCard, Others),
         0xAE => ("GENERATE AC", ToCard, Cryptogram),
         0xC2 => ("ENVELOPE", ToCard, Others),
+        0xD8 => ("PUT KEY", ToCard, Others),
+        0xE2 => ("STORE DATA", ToCard, Others),
+        0xE4 => ("DELETE", ToCard, Others),
+        0xE6 => ("INSTALL", ToCard, Others),
+        0xE8 => ("LOAD", ToCard, Others),
+        0xF0 => ("SET STATUS", ToCard, Others),
         _ => return None,
     })
 }

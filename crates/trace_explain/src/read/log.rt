@@ -438,22 +438,29 @@ fn command_len(bytes: &[u8]) -> usize
     let [cla, ins, _, _, p3, ..] = bytes else {
         return bytes.len();
     };
-    if bytes.len() < usize::from(*p3) + 7 {
+    if bytes.len() < 8 {
         return 5;
     }
     let way = instruction(*cla, *ins).map(|(_, way, _)| way);
     len_with(way, *p3, bytes.len())
 }
 
-/// Returns the length of the command in a line of `all` bytes. Before SW1-SW2 it has as many data
-/// as P3 says. They are those of the end that sends data this way.
+/// Returns the length of the command in a line of `all` bytes, with data before SW1-SW2. They are
+/// those of the end that sends data this way, the terminal's as many as P3 says. Else the answer is
+/// empty.
 fn len_with(way: Option<Direction>, p3: u8, all: usize) -> usize
-    requires { p3 + 7 ≤ all }
+    requires { 5 ≤ all }
     ensures value { result ≡ len_with way p3 all }
     ensures within { result ≤ all }
 {
     match way {
-        Some(Direction::ToCard) => usize::from(p3) + 5,
+        Some(Direction::ToCard) => {
+            if all < usize::from(p3) + 7 {
+                all
+            } else {
+                usize::from(p3) + 5
+            }
+        }
         Some(Direction::FromCard) => 5,
         None => { if p3 == 0 { 5 } else { all } }
     }

@@ -15,12 +15,15 @@
   - `refused`, `name` and `whole`: the lines of a GET DATA (`GETS`), as `refused #2 3` for its
     number and line, and then its time if it has one. `object` is its last rows (`OBJECT`).
   - `box #2 3 GET DATA of 50 | < 4142 | 9000`: a TPDU with its number, line, title, data and status.
-    It may have the rows `| time ..`, `| blocks ..`, `| before ..` and `| procedure ..`.
+    It may have the rows `| time ..`, `| blocks ..`, `| before ..`, `| header ..` and
+    `| procedure ..`. Without the fourth, the header is the first five bytes of that line.
     Without the last one and blocks, the procedure of data is `all at once`. `/` separates lines
     of data and blocks. On a page the color comes first: `box well #2 3 ..`.
   - `answer 1 3B800181 T=1`: an answer to reset in line 1, or as `answer 1` that of 3B00. Rows with
     other values follow, as `| historical 43 / a proprietary form`, with `/` between their lines.
-    `pps 2 FF00FF T=0; ..`: a PPS request in line 2, with the same response and this meaning.
+    `broken 1 3B cut at 1`: one at fault.
+  - `pps 2 FF00FF T=0; ..`: a PPS request in line 2, with the same response and this meaning.
+    Another response follows with its meaning, as `| FF01FE not agreed: ..`, or `| none`.
   - `unexpected 2 1 55 card a status` and `fault 1 00A404 6700 a reason`: an unexpected byte, or
     command and answer (`rows_of`).
   - `counts 1 | GET DATA: 1 | none other than 9000 | errors: 0`: the last block.
@@ -68,8 +71,10 @@ HEX = re.compile(r"\b(?:[0-9A-F]{2})+\b")
 ENDS = '<div class="ends"><span>Terminal</span><span>Card</span></div><div>'
 ODD = re.compile(rb"\\x([0-9A-F]{2})")
 # The program's signs, the longer ones first. A line has one after an optional time or count.
-FORMS = HERE.parents[1] / "crates/trace_explain/src/read/forms.rt"
-OF_CHARACTERS = FORMS.read_text(encoding="utf-8").partition(": commands")[0]
+FORMS = (HERE.parents[1] / "crates/trace_explain/src/read/forms.rt").read_text(encoding="utf-8")
+OF_CHARACTERS = FORMS.partition(": commands")[0]
+# The options of a log of whole commands.
+OF_LOGS = {"--tpdu", *re.findall(r"^form (\S+): commands$", FORMS, re.M)}
 SIGNS = re.findall(r"^(?:command|answer): (.+) \{bytes\}$", OF_CHARACTERS, re.M)
 ANY_SIGN = "|".join(sorted(map(re.escape, SIGNS), key=len, reverse=True)).encode()
 SIGNED = re.compile(
@@ -99,7 +104,7 @@ GETS = {
 OBJECT = ["  > header     00CA5F2000", '  < data       5F20 4A4F45 "JOE"  cardholder name',
           "  < status     9000 normal processing"]
 # The rows of a TPDU that have a name in a row `box`.
-NAMED = ("time ", "blocks ", "before ", "procedure ")
+NAMED = ("time ", "blocks ", "before ", "header ", "procedure ")
 # The sentences of two statuses.
 SENTENCES = {"9000": "9000 normal processing", "6A88": "6A88 referenced data not found"}
 
@@ -316,9 +321,17 @@ def rows_of(word, said):
     if word == "answer":
         return answer_of(said)
     if word == "pps":
-        line, characters, meaning = said.split(" ", 2)
-        return [f"PPS  (line {line})", f"  > request    {characters}", " " * 15 + meaning,
-                f"  < response   {characters}", " " * 15 + f"agreed: {meaning}"]
+        asked, _, answered = said.partition(" | ")
+        line, characters, meaning = asked.split(" ", 2)
+        rows_of_it = [f"PPS  (line {line})", f"  > request    {characters}", " " * 15 + meaning]
+        characters, _, meaning = (answered or f"{characters} agreed: {meaning}").partition(" ")
+        if not meaning:
+            return [*rows_of_it, f"    response   {characters}"]
+        return [*rows_of_it, f"  < response   {characters}", " " * 15 + meaning]
+    if word == "broken":
+        line, characters, fault = said.split(" ", 2)
+        return [f"answer to reset  (line {line})", f"  < characters {characters}",
+                f"    fault      {fault} (TS is at 0)"]
     if word == "fault":
         line, command, answer, fault = said.split(" ", 3)
         return [f"unexpected command or answer  (line {line})", f"    fault      {fault}",
@@ -363,11 +376,11 @@ def box_of(said, case):
     number, line, title = about.split(" ", 2)
     given = SIGNED.sub(b"", case.given.splitlines()[int(line) - 1]).decode()
     digits = re.sub("[^0-9A-F]", "", given.upper())[6 if "blocks" in named else 0 :]
-    header = title if title == "**" else digits[:10]
+    header = named.get("header", title if title == "**" else digits[:10])
     shown = SENTENCES.get(status, status)
     pieces = [(" ", name, named[name]) for name in ("time", "blocks", "before") if name in named]
     pieces.append((">", "header", in_parts(header) if is_page else header))
-    is_of_t0 = "--tpdu" not in case.words and "blocks" not in named
+    is_of_t0 = OF_LOGS.isdisjoint(case.words) and "blocks" not in named
     if "procedure" in named or (parts and is_of_t0):
         pieces.append(("<", "procedure", named.get("procedure", "all at once")))
     pieces += [(it[0], "Le", it[5:]) if " Le " in it else (it[0], "data", it[2:]) for it in parts]
@@ -480,7 +493,7 @@ def add_row(case, word, rest, part):
         case.wanted += OBJECT
     elif word in ("box", "counts"):
         case.wanted += {"box": box_of, "counts": counts_of}[word](rest, case)
-    elif word in (*GETS, "answer", "pps", "unexpected", "fault"):
+    elif word in (*GETS, "answer", "broken", "pps", "unexpected", "fault"):
         case.wanted += rows_of(word, rest)
     elif word == "err":
         case.error += rest + "\n"

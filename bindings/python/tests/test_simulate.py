@@ -253,7 +253,8 @@ def test_a_reset_by_a_fault_at_vpcd(vpcd):
 
 
 @pytest.mark.parametrize("words", [["--seed", "\u0661"], ["--seed", "1_0"], ["--baud", " 9600"]])
-def test_a_number_of_other_characters_is_refused(files, words):
+def test_a_number_of_other_characters_is_refused(files, monkeypatch, words):
+    monkeypatch.setattr(simulate, "serve_pty", lambda *_: None)
     with pytest.raises(SystemExit):
         main(["--pty", *files(), *words])
 
@@ -378,7 +379,9 @@ def test_files_and_ports_that_are_missing(tmp_path, capsys):
     assert main(["--table", table, "--tty", "/none"]) == 1
     assert capsys.readouterr().err.count("No such file") == 2
     ports = ("localhost", "localhost:", "localhost:vpcd", "localhost:\u00b2", "localhost:65536")
-    ports += ("localhost:\u0661", "localhost:1_0", "localhost: 1")
     for address in (*ports, f"localhost:{2**64}", "localhost:-1", "a" * 70 + ":1"):
         assert main(["--table", table, "--vpcd", address]) == 2
         assert f"HOST:PORT is expected: {address}: " in capsys.readouterr().err
+    for port in ("\u0661", "1_0", " 1"):
+        with pytest.raises(Mistake):
+            simulate.connected(f"localhost:{port}")

@@ -2,6 +2,7 @@
 
 ghost use Rattle.std.specs.Prelude.{◌≤◌, length};
 
+use crate::operation::Fault;
 use crate::session::{card, selection};
 use card_terminal::{Op, Terminal};
 use object_card::ObjectCard;
@@ -23,7 +24,7 @@ pub struct Driven {
 
 impl Driven {
     /// Makes a terminal that has selected the application.
-    pub fn selected(alloc: Global) -> anyhow::Result<Driven> {
+    pub fn selected(alloc: Global) -> Result<Driven, Fault> {
         let mut driven = Driven {
             terminal: Terminal::new(alloc),
             end: CardEnd::new(card(alloc)?),
@@ -34,7 +35,7 @@ impl Driven {
 
     /// Carries out operations through one buffer. It is an error if the card does not answer one
     /// with `9000`.
-    pub fn carry_out(&mut self, ops: &[Op]) -> anyhow::Result<()> {
+    pub fn carry_out(&mut self, ops: &[Op]) -> Result<(), Fault> {
         let mut buffer = [0; BUFFER];
         for op in ops {
             self.begin(op)?;
@@ -44,17 +45,17 @@ impl Driven {
         Ok(())
     }
 
-    fn begin(&mut self, op: &Op) -> anyhow::Result<()> {
-        match op {
-            Op::Select(aid) => self.terminal.select(aid)?,
-            Op::Get(tag) => self.terminal.get(*tag)?,
-            Op::Put(tag, value) => self.terminal.put(*tag, value.bytes())?,
-        }
-        Ok(())
+    fn begin(&mut self, op: &Op) -> Result<(), Fault> {
+        let begun = match op {
+            Op::Select(aid) => self.terminal.select(aid),
+            Op::Get(tag) => self.terminal.get(*tag),
+            Op::Put(tag, value) => self.terminal.put(*tag, value.bytes()),
+        };
+        begun.ok().ok_or("an operation does not begin")
     }
 
     /// Passes characters through a buffer, from either end, until the operation ends.
-    fn pass(&mut self, buffer: &mut [u8]) -> anyhow::Result<()> {
+    fn pass(&mut self, buffer: &mut [u8]) -> Result<(), Fault> {
         let mut plans = Plans::<Global>::over(&[]);
         for _ in 0..CHARACTERS {
             let Some(handed) = self.terminal.next_bytes(buffer) else {
@@ -65,7 +66,9 @@ impl Driven {
                 None => {}
                 Some(HostTurn::Listens) => {
                     let count = self.card_bytes(&mut plans, buffer);
-                    self.terminal.take_bytes(&buffer[..count]).outcome?;
+                    if self.terminal.take_bytes(&buffer[..count]).outcome.is_err() {
+                        return Err("an operation failed");
+                    }
                 }
                 Some(_) => break,
             }
@@ -74,9 +77,9 @@ impl Driven {
     }
 
     /// Passes characters of the terminal to the card.
-    fn hand_on(&mut self, bytes: &[u8]) -> anyhow::Result<()> {
+    fn hand_on(&mut self, bytes: &[u8]) -> Result<(), Fault> {
         if self.end.take_bytes(bytes) < bytes.len() {
-            anyhow::bail!("the card does not listen");
+            return Err("the card does not listen");
         }
         Ok(())
     }
@@ -95,13 +98,11 @@ impl Driven {
     }
 
     /// Checks that the operation has ended, and the card's status is `9000`.
-    fn check_answer(&self) -> anyhow::Result<()> {
-        let Some((status, _)) = self.terminal.answer() else {
-            anyhow::bail!("an operation has no answer");
-        };
-        if !status.is_ok() {
-            anyhow::bail!("an operation was refused");
+    fn check_answer(&self) -> Result<(), Fault> {
+        match self.terminal.answer() {
+            Some((status, _)) if status.is_ok() => Ok(()),
+            Some(_) => Err("an operation was refused"),
+            None => Err("an operation has no answer"),
         }
-        Ok(())
     }
 }

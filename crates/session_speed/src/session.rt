@@ -1,11 +1,10 @@
 //! A session with a card of data objects that holds small values and a large one.
 
 use crate::load::{Load, OBJECTS, Object};
-use crate::operation::{operation, tag_of, value_of};
-use anyhow::Context;
+use crate::operation::{Fault, MEMORY, operation, tag_of, value_of};
 use card_terminal::{Answers, Op, Session};
 use object_card::{Aid, CardBuilder, ObjectCard};
-use std::alloc::{AllocError, Global};
+use std::alloc::Global;
 use t0_core::{CardEnd, Plans, Recorder, Silent, Watch};
 
 pub type ObjectSession = Session<ObjectCard<Global>>;
@@ -14,45 +13,52 @@ pub type ObjectSession = Session<ObjectCard<Global>>;
 const AID: [u8; 7] = [0xA0, 0x00, 0x00, 0x00, 0x03, 0x10, 0x10];
 
 /// Makes a session that has selected the application.
-pub fn selected(alloc: Global) -> anyhow::Result<ObjectSession> {
+pub fn selected(alloc: Global) -> Result<ObjectSession, Fault> {
     let mut session = Session::new(CardEnd::new(card(alloc)?));
     carry_out(alloc, &mut session, &selection(alloc)?)?;
     Ok(session)
 }
 
 /// The operation that selects the application, as a list.
-pub fn selection(alloc: Global) -> anyhow::Result<Vec<Op>> {
-    Ok(one(alloc, Op::Select(aid()?))?)
+pub fn selection(alloc: Global) -> Result<Vec<Op>, Fault> {
+    one(alloc, Op::Select(aid()?))
 }
 
-fn aid() -> anyhow::Result<Aid> {
-    Aid::new(&AID).context("no identifier")
+fn aid() -> Result<Aid, Fault> {
+    Aid::new(&AID).ok_or("no identifier")
 }
 
 /// Makes a card with one application that contains all objects.
-pub fn card(alloc: Global) -> anyhow::Result<ObjectCard<Global>> {
+pub fn card(alloc: Global) -> Result<ObjectCard<Global>, Fault> {
     let mut builder = CardBuilder::new(alloc);
-    builder.app(aid()?)?;
+    if builder.app(aid()?).is_err() {
+        return Err("no application");
+    }
     for object in &OBJECTS {
         add(alloc, &mut builder, object)?;
     }
-    Ok(builder.finish()?)
+    builder.finish().ok().ok_or(MEMORY)
 }
 
-fn add(alloc: Global, builder: &mut CardBuilder<Global>, object: &Object) -> anyhow::Result<()> {
-    builder.object(tag_of(object)?, &value_of(alloc, object)?)?;
-    Ok(())
+fn add(alloc: Global, builder: &mut CardBuilder<Global>, object: &Object) -> Result<(), Fault> {
+    let value = value_of(alloc, object)?;
+    builder
+        .object(tag_of(object)?, &value)
+        .ok()
+        .ok_or("no object")
 }
 
 /// A list of one operation.
-fn one(alloc: Global, op: Op) -> Result<Vec<Op>, AllocError> {
+fn one(alloc: Global, op: Op) -> Result<Vec<Op>, Fault> {
     let mut ops = Vec::new(alloc);
-    ops.push(op)?;
-    Ok(ops)
+    match ops.push(op) {
+        Ok(()) => Ok(ops),
+        Err(_) => Err(MEMORY),
+    }
 }
 
 /// Carries out operations. It is an error if the card does not answer one with `9000`.
-pub fn carry_out(alloc: Global, session: &mut ObjectSession, ops: &[Op]) -> anyhow::Result<()> {
+pub fn carry_out(alloc: Global, session: &mut ObjectSession, ops: &[Op]) -> Result<(), Fault> {
     run(alloc, session, ops, &mut Silent)
 }
 
@@ -61,12 +67,12 @@ pub fn characters_of_one(
     alloc: Global,
     session: &mut ObjectSession,
     load: &Load,
-) -> anyhow::Result<usize> {
+) -> Result<usize, Fault> {
     let ops = one(alloc, operation(alloc, load)?)?;
     let mut recorder = Recorder::new(alloc);
     run(alloc, session, &ops, &mut recorder)?;
     if recorder.lost() {
-        anyhow::bail!("no memory for what was heard");
+        return Err(MEMORY);
     }
     Ok(recorder.heard().len())
 }
@@ -76,17 +82,17 @@ fn run<W: Watch>(
     session: &mut ObjectSession,
     ops: &[Op],
     watch: &mut W,
-) -> anyhow::Result<()> {
+) -> Result<(), Fault> {
     if !session.is_idle() {
-        anyhow::bail!("a chain is pending");
+        return Err("a chain is pending");
     }
     let mut answers = Answers::new(alloc);
     let mut plans = Plans::<Global>::over(&[]);
-    session.run(alloc, ops, &mut plans, watch, &mut answers)?;
-    if !are_ok(&answers) {
-        anyhow::bail!("an operation was refused");
+    match session.run(alloc, ops, &mut plans, watch, &mut answers) {
+        Ok(()) if are_ok(&answers) => Ok(()),
+        Ok(()) => Err("an operation was refused"),
+        Err(_) => Err("an operation failed"),
     }
-    Ok(())
 }
 
 fn are_ok(answers: &Answers) -> bool {

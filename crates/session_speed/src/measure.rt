@@ -8,7 +8,7 @@ use tlv_core::Objects;
 const ROUNDS: u32 = 20;
 
 /// The number of such rounds; the fastest counts.
-const TRIES: u32 = 200;
+const TRIES: u32 = 50;
 
 /// The number of levels below the first list: at least as many as objects can have.
 const LEVELS: u8 = 16;

@@ -1,4 +1,4 @@
-use Rattle.tlv_speed.proofs.measure.+walked.Given as goal
+use Rattle.session_speed.proofs.measure.+walked.Given as goal
 
 -- one level fewer at each call
 abbrev pub decreases-walked : goal.decreases-walked

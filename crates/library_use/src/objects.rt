@@ -1,10 +1,10 @@
 //! Lists the objects inside the templates of a list, as text.
 
-use std::alloc::Global;
-use tlv_core::{Objects, Tag};
+use std::alloc::{AllocError, Global};
+use tlv_core::{Objects, ReadFault, Tag};
 
 /// Lists the objects inside the templates of a list, each as its tag and its value.
-pub fn listed(alloc: Global, bytes: &[u8]) -> anyhow::Result<String> {
+pub fn listed(alloc: Global, bytes: &[u8]) -> Result<String, ReadFault> {
     let mut text = String::new(alloc);
     // the objects in each template
     for object in Objects::over(bytes)? {
@@ -17,7 +17,7 @@ pub fn listed(alloc: Global, bytes: &[u8]) -> anyhow::Result<String> {
     Ok(text)
 }
 
-fn push(alloc: Global, text: &mut String, tag: Tag, value: &[u8]) -> anyhow::Result<()> {
+fn push(alloc: Global, text: &mut String, tag: Tag, value: &[u8]) -> Result<(), AllocError> {
     text.push_str(&hex::encode_upper(alloc, tag.bytes())?)?;
     text.push(' ')?;
     text.push_str(&hex::encode_upper(alloc, value)?)?;

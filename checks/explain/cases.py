@@ -68,6 +68,7 @@ PROTOCOL_ERRORS = ("unexpected byte  (", "unexpected command or answer  (")
 AT_FAULT = re.compile(r"    fault      .* \(TS is at 0\)$")
 BLOCK = "summary"
 HEX = re.compile(r"\b(?:[0-9A-F]{2})+\b")
+TITLES = "<h1>A trace, explained</h1>", "<h1>Two traces, compared</h1>"
 ENDS = '<div class="ends"><span>Terminal</span><span>Card</span></div><div>'
 ODD = re.compile(rb"\\x([0-9A-F]{2})")
 # The program's signs, the longer ones first. A line has one after an optional time or count.
@@ -139,6 +140,8 @@ class Case:
                     return f"{self.name}: in the last block {line!r}, and not {wanted!r}"
         if self.part == "all":
             lines = out.splitlines()
+        if self.part == "page" and TITLES["--diff" in self.words] not in lines:
+            return f"{self.name}: no title"
         said = PARTS[self.part](lines)
         for wanted, line in zip(self.wanted, said):
             if wanted != line:
@@ -535,16 +538,16 @@ def link_cases():
         words = ["--html", "--summary", "--resume"]
         yield Case(f"{count} protocol errors", lines_of(given), block, words, error, part="page")
     for count, more in ((8, []), (9, ["<p>1 more status</p>"]), (10, ["<p>2 more statuses</p>"])):
-        words = [f"6A{0x80 + it:02X}" for it in range(count)] + ["6A80"]
+        words = [f"6A{0x80 + it:02X}" for it in range(count)] + ["6A80"] * 2
         given = [line for word in words for line in ("> 00CA5F2000", f"< {word}")]
-        twice = f'<p>6A80, 2 times: <a href="#t1">first (#1)</a> <a href="#t{count + 1}">next '
+        twice = f'<p>6A80, 3 times: <a href="#t1">first (#1)</a> <a href="#t{count + 1}">next '
         once = [
             f'<p>6A{0x7F + it:02X}, 1 time: <a href="#t{it}">first (#{it})</a></p>'
             for it in range(2, 9)
         ]
         wanted = [f"{twice}(#{count + 1})</a></p>", *once, *more]
-        told = "6A80: 2\n" + "\n".join(f"6A{0x80 + it:02X}: 1" for it in range(1, count))
-        block = [line for row in page_block(count + 1, "", told, 0, *wanted)
+        told = "6A80: 3\n" + "\n".join(f"6A{0x80 + it:02X}: 1" for it in range(1, count))
+        block = [line for row in page_block(count + 2, "", told, 0, *wanted)
                  for line in row.splitlines()]
         words = ["--html", "--summary"]
         yield Case(f"{count} statuses", lines_of(given), block, words, part="page")

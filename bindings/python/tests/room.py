@@ -12,6 +12,8 @@ import subprocess
 import sys
 from pathlib import Path
 
+from waiting import wait_until
+
 HERE = Path(__file__).resolve().parent
 STANDIN = HERE / "standin"
 AID = bytes.fromhex("A0000000031010")
@@ -163,6 +165,11 @@ class Room:
 
     def journal(self):
         return (self.path / "journal").read_text().splitlines()
+
+    def begun(self, word="begin"):
+        """Waits until a row was begun, or has a line with another word."""
+        file = self.path / "journal"
+        wait_until(lambda: file.exists() and f"\n{word} " in file.read_text())
 
     def events(self):
         """The first two words of each line of the journal."""

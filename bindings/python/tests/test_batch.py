@@ -242,17 +242,11 @@ def test_a_row_that_begins_after_a_second_interrupt(tmp_path, monkeypatch):
     assert at.faults == [] and room.events() == ["begin 1", "done 1"]
 
 
-def begun(room):
-    """Waits until a row was begun."""
-    while not (room.path / "journal").exists() or len(room.journal()) < 2:
-        time.sleep(0.01)
-
-
 def test_two_runs_at_one_reader(tmp_path):
     room = Room(tmp_path, 3)
     room.environment["SLOW"] = "0.1"
     first = room.start()
-    begun(room)
+    room.begun()
     out, error = room.run()[1:]
     assert error == "" and f"{room.names[0]}: set aside: another run serves this reader\n" in out
     assert out.endswith(" of 3 rows done, 0 to decide\n") and ": row " not in out
@@ -577,7 +571,7 @@ def test_cards_get_what_was_checked(tmp_path):
         (tmp_path / f"PERSON {row}.jpg").write_bytes(bytes([row]))
     room.environment["SLOW"] = "0.1"
     run = room.start()
-    begun(room)
+    room.begun()
     (tmp_path / "PERSON 1.jpg").unlink()
     (tmp_path / "PERSON 2.jpg").write_bytes(b"3")
     assert ended(run)[0].endswith("2 of 2 rows done, 0 to decide\n")
@@ -589,7 +583,7 @@ def test_an_interrupted_run_ends_the_card_in_progress(tmp_path, handler):
     room = Room(tmp_path, 3)
     room.environment["SLOW"] = "0.1"
     run = interruptible(room, handler=handler)
-    begun(room)
+    room.begun()
     os.kill(run.pid, signal.SIGINT)
     out, error = ended(run)
     assert (run.returncode, error) == (1, "")
@@ -604,7 +598,7 @@ def test_a_run_that_is_interrupted_twice_lists_its_row(tmp_path):
     room = Room(tmp_path, 3)
     room.environment["SLOW"] = "1.5"
     run = interruptible(room)
-    begun(room)
+    room.begun()
     os.kill(run.pid, signal.SIGINT)
     assert "stops after" in [run.stdout.readline() for _ in range(3)][2]
     os.kill(run.pid, signal.SIGINT)
@@ -620,12 +614,6 @@ def test_without_a_pcscd_no_reader_is_chosen(tmp_path):
     (tmp_path / "gone").touch()
     assert room.run() == refused("error 9")
     assert not (tmp_path / "journal").exists()
-
-
-def test_a_missing_file_is_named(tmp_path):
-    room = Room(tmp_path, 1)
-    (tmp_path / "rows.csv").unlink()
-    assert room.run() == refused("[Errno 2] No such file or directory: 'rows.csv'")
 
 
 def test_two_runs_at_once(tmp_path):

@@ -58,16 +58,6 @@ def test_a_journal_that_an_editor_wrote_with_other_ends_of_lines_knows_its_cards
     assert room.events()[3:] == ["begin 2", "unused 2", "begin 2", "card 2", "done 2"]
 
 
-def test_a_card_is_refused_before_it_changes(tmp_path):
-    """The card holds its first row still, and the journal has no second card line."""
-    room = Room(tmp_path, 2)
-    same_card(room, 2)
-    room.run("--id=9F7F")
-    events = room.events()
-    assert events[:5] == ["begin 1", "card 1", "done 1", "begin 2", "unused 2"]
-    assert room.held()[f"{room.names[0]}-0"]["24352"] == b"PERSON 1".hex()
-
-
 def test_again_writes_a_row_once_more_to_its_card(tmp_path):
     room = Room(tmp_path, 3)
     assert room.run("--id=9F7F")[0] == 0
@@ -104,21 +94,6 @@ def test_a_journal_keeps_its_identifier(tmp_path):
     assert room.run("--id=51") == refused("journal was created with --id 9F7F")
 
 
-def test_a_card_that_lies_in_the_reader_waits(tmp_path):
-    room = Room(tmp_path, 1)
-    status, out, _ = room.run(go=False)
-    waits = "a card lies in it: remove and insert it, or press Enter to write it"
-    assert status == 0 and f"{room.names[0]}: {waits}\n" in out
-    assert [*room.held()] == [f"{room.names[0]}-1"]
-
-
-def test_go_writes_the_card_that_lies_in_the_reader(tmp_path):
-    room = Room(tmp_path, 1)
-    status, out, _ = room.run("--go")
-    assert status == 0 and "a card lies in it" not in out
-    assert [*room.held()] == [f"{room.names[0]}-0"]
-
-
 def test_a_mistyped_journal_does_not_begin_again(tmp_path):
     room = Room(tmp_path, 2)
     assert room.run()[0] == 0
@@ -126,16 +101,6 @@ def test_a_mistyped_journal_does_not_begin_again(tmp_path):
         wanted = refused("there is no journal jurnal: --new creates it")
         assert room.run("--journal=jurnal", *words, *room.readers) == wanted
     assert not (tmp_path / "jurnal").exists() and len(room.held()) == 2
-
-
-def test_new_refuses_a_journal_that_exists(tmp_path):
-    room = Room(tmp_path, 2)
-    assert room.run()[0] == 0
-    before = (tmp_path / "journal").read_bytes()
-    for words in ((), ("--check",)):
-        wanted = refused("journal exists: without --new the batch continues")
-        assert room.run("--new", *room.readers, *words) == wanted
-    assert (tmp_path / "journal").read_bytes() == before
 
 
 def test_a_second_journal_in_the_folder_is_refused(tmp_path):

@@ -122,8 +122,7 @@ def test_a_reader_that_comes_and_goes(tmp_path):
     room = Room(tmp_path, 6, readers=2)
     room.environment["SLOW"] = "0.05"
     run = room.start()
-    while not (tmp_path / "journal").exists() or "done" not in (tmp_path / "journal").read_text():
-        time.sleep(0.01)
+    room.begun("done")
     for name in room.names:
         (tmp_path / name / "away").touch()
     killer = threading.Timer(60, run.kill)
@@ -150,8 +149,7 @@ def test_a_pcscd_that_goes_away_is_waited_for(tmp_path):
     room = Room(tmp_path, 3)
     room.environment["SLOW"] = "0.05"
     run = room.start()
-    while not (tmp_path / "journal").exists() or "done" not in (tmp_path / "journal").read_text():
-        time.sleep(0.01)
+    room.begun("done")
     (tmp_path / "gone").touch()
     killer = threading.Timer(60, run.kill)
     killer.start()

@@ -445,8 +445,7 @@ def test_a_report_that_is_lost_stops_no_card(tmp_path):
     room.environment["SLOW"] = "0.05"
     (tmp_path / "here").mkdir()
     run = room.start("--report=here/day.html")
-    while not (tmp_path / "journal").exists() or len(room.journal()) < 2:
-        time.sleep(0.01)
+    room.begun()
     (tmp_path / "here").rename(tmp_path / "there")
     out, error = ended(run)
     why = f"[Errno 2] No such file or directory: 'here/day.html.{run.pid}.new'"

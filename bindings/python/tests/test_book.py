@@ -3,7 +3,7 @@
 from pathlib import Path
 
 import pytest
-from galliumtoad import CallError, Card, Get, Level, Put, Select, Send, Session, Terminal
+from galliumtoad import CallError, Card, Get, Put, Select, Send, Session
 
 BOOK = Path(__file__).resolve().parents[3] / "examples"
 PLAYS = sorted(BOOK.rglob("*.play"))
@@ -103,34 +103,6 @@ def shown(status, data):
 @pytest.mark.parametrize("script", PLAYS, ids=lambda it: str(it.relative_to(BOOK)))
 def test_play(script):
     assert list(played(script)) == script.with_suffix(".out").read_text().splitlines()
-
-
-class Commands:
-    """A card, by whole commands."""
-
-    level = Level.APDU
-
-    def __init__(self, card):
-        self.card = card
-
-    def __call__(self, command):
-        return self.card.apdu(command)
-
-
-@pytest.mark.parametrize("script", PLAYS, ids=lambda it: str(it.relative_to(BOOK)))
-def test_each_transport_has_the_same_answers(script):
-    """Without plans. After a command that keeps a session busy, that session sends nothing."""
-    wanted = [it for it in script.with_suffix(".out").read_text().splitlines() if it[0] in "=!"]
-    for way in (lambda card: card.tpdu, Commands):
-        card, words = built(lines(script))
-        reader, answers = way(card), iter(wanted)
-        with Terminal() as terminal:
-            for line in words:
-                if line[0] == "reset":
-                    card.reset()
-                elif line[0] not in ("plan", "table") and (answer := next(answers))[0] == "=":
-                    assert shown(*terminal.run(reader, operation(line))) == answer
-        assert list(answers) == []
 
 
 def test_a_busy_card_is_named():

@@ -548,13 +548,6 @@ def test_an_interrupted_call_leaves_the_handle_free():
         assert place > 10
 
 
-@pytest.mark.parametrize("data", [SELECT[:-1], bytearray(SELECT[:-1]), memoryview(SELECT)[:-1]])
-def test_each_kind_of_bytes_is_read_in_place(data):
-    with card() as held:
-        assert held.tpdu(data) == bytes.fromhex("610B")
-    assert bytes(data) == SELECT[:-1]
-
-
 def test_a_handle_keeps_no_bytes_between_its_calls():
     held, terminal, seen = card(), Terminal(), []
 

@@ -448,29 +448,6 @@ def test_a_fault_of_blocks_waits_for_blocks():
     assert blocks(it, block(0, 0, SELECT)) == [block(0, 0, b"\x61\x0b")] and not struck
 
 
-def test_an_abort():
-    it, struck = simulator("command 1, abort")
-    assert blocks(it, block(0, 0, JOB[0])) == [block(0, 0xC2, b"")] and struck
-
-
-def test_an_echo():
-    faults = Faults(read("command 1, wrong echo"), tell=lambda text: None)
-    faults.begin(SELECT)
-    assert [faults.edited(it, ECHO) for it in (b"\x07", b"\x07")] == [b"\x06", b"\x07"]
-
-
-def test_without_faults_the_library_speaks():
-    """Characters and blocks are those of the card alone."""
-    it, card = simulator("", 0)[0], Card({AID: {0x5F20: b"JOE"}})
-    expected = []
-    for tpdu in T0_JOB:
-        expected.append(b"")
-        for byte in tpdu:
-            card.receive_bytes(bytes([byte]))
-            expected[-1] += card.send_bytes()
-    assert said(it, *T0_JOB) == expected
-
-
 @pytest.mark.parametrize("t", [0, 1])
 def test_a_transport(t):
     it, struck = simulator("INS DA once, status 6A84", t)

@@ -5,7 +5,6 @@ import platform
 import socket
 import subprocess
 import sys
-import time
 from pathlib import Path
 
 import pytest
@@ -246,18 +245,3 @@ def test_trials_over_a_reader(desk):
                           capture_output=True, env=desk.environment, timeout=280)
     assert (done.returncode, done.stderr) == (0, "")
     assert "6 told" in done.stdout
-
-
-def test_as_fast_as_another_card(desk):
-    """In one run, the same number of commands to this card and to vsmartcard's own."""
-    (desk.path / "table").write_text(f"app {AID}\n")
-    commands = ["00A4000C023F00"] * 300
-    ours = desk.card("--table", desk.path / "table", "--atr", "3B800181")
-    mine = min(desk.ask(*commands, is_new=not at)[1] for at in range(3))
-    ours.terminate()
-    ours.wait()
-    words = [sys.executable, C / "tests" / "vicc.py", str(desk.port), "3B800181"]
-    desk.made.append(subprocess.Popen(words, stdout=subprocess.DEVNULL, stderr=subprocess.DEVNULL))
-    others = min(desk.ask(*commands, is_new=not at)[1] for at in range(3))
-    print(f"{300 / mine:.0f} commands a second, and {300 / others:.0f} of the other card")
-    assert mine <= others

@@ -134,12 +134,12 @@ fn lines_read(alloc: Global, rows: &Rows, head: &[u8]) -> Result<usize, AllocErr
     Ok(count)
 }
 
-/// Returns these bytes up to the last LF; all if they have no LF.
+/// Returns these bytes up to the last LF, with it; all if they have no LF.
 fn whole_lines(head: &[u8]) -> &[u8] {
     for behind in 0..head.len() {
-        let place = head.len() - 1 - behind;
-        if head[place] == b'\n' {
-            return &head[..place];
+        let size = head.len() - behind;
+        if head[size - 1] == b'\n' {
+            return &head[..size];
         }
     }
     head

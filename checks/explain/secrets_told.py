@@ -71,6 +71,7 @@ def of_objects():
     yield "a part of a file by its object", brought("00B10000", f"5304{HALF}")
     yield "a part of a record", brought("00B3010C", f"5304{HALF}") + sent("00DD010C", HALF)
     yield "a part of a command", sent("00C20000", HALF) + sent("00C30000", HALF)
+    yield "an answer to one", brought("00C30000", HALF)
     yield "a part that is written", sent("00D10000", HALF) + sent("00D70000", HALF)
     yield "a part behind others", sent("00D00001", HALF) + sent("00D60100", HALF)
     yield "before a header", [f"< {DIGITS}", *brought("00CA5F20", "41")]

@@ -112,12 +112,3 @@ def test_a_busy_card_is_named():
         with pytest.raises(CallError) as error:
             session.run(Get(0x5F20))
         assert error.value.name == "GT_BUSY"
-
-
-def test_nobody_listens_at_first():
-    with Session(Card({bytes(5): {}})) as session:
-        with pytest.raises(CallError) as error:
-            session.heard()
-        assert error.value.name == "GT_STATE"
-        session.listen()
-        assert session.heard() == []

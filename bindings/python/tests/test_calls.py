@@ -92,27 +92,6 @@ def test_an_outcome_that_is_not_known_is_unknown(outcome):
     assert error.outcome is (Outcome.UNKNOWN if outcome is None else outcome)
 
 
-@pytest.mark.parametrize("wrong", ["9000", 5, None, [1, 2]])
-def test_what_is_no_bytes_is_a_type_error(wrong):
-    calls = [
-        lambda: Atr(wrong),
-        lambda: Card({wrong: {}}) if not isinstance(wrong, list) else Atr(wrong),
-        lambda: card().tpdu(wrong),
-        lambda: card().receive_bytes(wrong),
-        lambda: Exchange(wrong),
-        lambda: Terminal().begin(Put(0x50, wrong)),
-        lambda: Terminal().begin(Select(wrong)),
-        lambda: Terminal().begin(Send(wrong)),
-        lambda: Terminal().begin(wrong),
-        lambda: Pps(0).is_agreed(wrong),
-        lambda: Terminal().answered(wrong),
-        lambda: Terminal().receive_bytes(wrong),
-    ]
-    for call in calls:
-        with pytest.raises(TypeError):
-            call()
-
-
 @pytest.mark.parametrize("wrong", ["9000", 5, None, [1, 2], memoryview(b"P.A.")[::2]])
 def test_a_list_of_objects_is_bytes(wrong):
     zeros = Card({bytes(5): {}})
@@ -218,23 +197,6 @@ def test_any_bytes_like_object_is_read():
         session.run(Put(0x5F20, memoryview(b"A.N.N.")[::2]))
 
 
-REFUSED = [
-    (CallError, "GT_ARGUMENT", lambda: Card({b"1234": {}})),
-    (BuildError, "GT_VALUE_TOO_LONG", lambda: Card({AID: {0x5F20: bytes(8193)}})),
-    (CallError, "GT_ARGUMENT", lambda: Card({AID: {0x5F2080: b""}})),
-    (TransportError, "GT_WANTS_DATA", lambda: card().tpdu(bytes.fromhex("00A4040007"))),
-    (CallError, "GT_ARGUMENT", lambda: card().plan("", 257)),
-    (CommandError, "GT_TOO_SHORT", lambda: Exchange(b"123")),
-    (CallError, "GT_ARGUMENT", lambda: Exchange(SELECT, limit=16385)),
-]
-
-
-@pytest.mark.parametrize(("kind", "name", "call"), REFUSED)
-def test_a_refused_call(kind, name, call):
-    with raises(kind, name):
-        call()
-
-
 def test_what_a_card_holds():
     held = card()
     assert held.applications == [AID] and held.selected is None
@@ -245,16 +207,6 @@ def test_what_a_card_holds():
     assert held.selected == AID
     held.reset()
     assert held.selected is None
-
-
-def test_an_exchange_by_characters():
-    held, exchange = card(), Exchange(SELECT)
-    while exchange.answer() is None:
-        held.receive_bytes(exchange.send_bytes())
-        exchange.receive_bytes(held.send_bytes())
-    assert exchange.answer() == Answer(Status(0x9000), bytes.fromhex("6F098407A0000000031010"))
-    with raises(LineError, "GT_AFTER_END", 0):
-        exchange.receive_bytes(b"\x90")
 
 
 @pytest.mark.parametrize(
@@ -340,15 +292,9 @@ def test_a_wrong_level_is_a_type_error(level):
     with pytest.raises(TypeError, match="^Levelled is neither .* `level`"):
         terminal.run(transport, Select(AID))
     assert transport.sent == [] and terminal.tpdu() is None
-    assert terminal.run(Levelled(Level.APDU), Select(AID)).status.is_ok
-
-
-def test_a_mock_without_a_level_is_a_type_error():
-    with pytest.raises(TypeError):
-        Terminal().run(Mock(return_value=b"\x90\x00"), Get(0x50))
-    reader = Mock(return_value=b"\x90\x00", level=Level.TPDU)
-    assert Terminal().run(reader, Get(0x50)).status.is_ok
-    reader.assert_called_once_with(bytes.fromhex("00CA005000"))
+    for right, sent in ((Level.APDU, SELECT), (Level.TPDU, SELECT[:-1])):
+        transport = Levelled(right)
+        assert terminal.run(transport, Select(AID)).status.is_ok and transport.sent == [sent]
 
 
 def test_a_terminal_is_reset_if_its_answer_is_lost(monkeypatch):

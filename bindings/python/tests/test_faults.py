@@ -168,19 +168,6 @@ def test_whole_commands(trial):
     assert found[:before] == ANSWERS[:before]
 
 
-@pytest.mark.parametrize("trial", ANYWHERE, ids=lambda it: it.name)
-def test_blocks_carry_the_same(trial):
-    """A terminal at T=1 gets the answers of whole commands, over blocks of the card."""
-    it, other = simulator(trial.faults)[0], simulator(trial.faults)[0]
-    for each in (it, other):
-        each.is_over.set()
-    with T1(End(it, at_t1).pass_block) as terminal:
-        for command, answer in zip(JOB, whole(other)):
-            if answer is None or len(answer) > 258:  # no terminal takes a longer response
-                break
-            assert terminal(command) == answer
-
-
 def said(it, *tpdus):
     """What the card sends in each TPDU."""
     end, found = End(it, at_t0), []
@@ -325,15 +312,6 @@ def test_blocks_of_a_trial(trial):
     assert len(struck) == 1
 
 
-def test_a_changed_response_goes_in_fields_of_the_terminal_s_size():
-    it, _ = simulator("command 5, flip 100")
-    end = End(it, at_t1)
-    with T1(end.pass_block) as terminal:
-        assert [len(terminal(command)) for command in JOB[:5]][4] == 258
-    assert [len(it) for it in end.blocks[-2:]] == [258, 8]
-    assert end.blocks[0] == block(0, 0xE1, b"\xfe")
-
-
 def test_a_response_that_is_longer_than_any_terminal_takes():
     """The last block has the rest."""
     it, _ = simulator("command 5, add 5A5A5A")
@@ -390,14 +368,6 @@ def test_a_command_in_the_middle_of_a_response():
                   block(0, 0, SELECT), block(0, 0x80, b""))
     assert sent[2:] == [block(0, 0x60, NAME[:4]), block(0, 0x82, b""), block(0, 0, NAME[4:])]
     assert done == [SELECT, GET_NAME]
-
-
-def test_a_command_that_comes_again():
-    """It is not carried out again: its number is that of the last one."""
-    it, _ = simulator("")
-    it.carried_out = (done := []).append
-    sent = blocks(it, block(0, 0, SELECT), block(0, 0, SELECT), block(0, 0x80, b""))
-    assert sent[1] == block(0, 0x92, b"") and sent[2] == sent[0] and done == [SELECT]
 
 
 def test_a_card_whose_first_protocol_is_t0_carries_out_commands_at_t1():

@@ -7,7 +7,7 @@ from functools import partial
 
 import pytest
 from galliumtoad import (T1, Application, CallError, Command, CommandError, OwnCard, Session,
-                         Status, TransportError)
+                         TransportError)
 
 
 def made(count):
@@ -100,12 +100,6 @@ def test_at_t0():
             assert (card.send_bytes(), log(card)) == (b"", seen), sent
 
 
-def test_by_tpdus():
-    with own() as card:
-        for sent, answer, seen in AT_T0:
-            assert (card.tpdu(bytes.fromhex(sent)), log(card)) == (answer, seen), sent
-
-
 # By whole commands a command settles at once.
 COMMANDS = [
     ("00B0000500", made(5) + b"\x90\x00", done("00b00005", le=256)),
@@ -151,14 +145,6 @@ def test_at_t1():
         assert log(card) == [("reset",)]
         with pytest.raises(CallError):
             card.block(b"")
-
-
-def test_a_plan():
-    with own() as card:
-        with pytest.raises(ValueError, match="a NUL character"):
-            card.plan("n\0o", 2)
-        card.plan("no", 2)
-        assert card.tpdu(bytes.fromhex("00B0000501")) == made(1) + b"\x61\x02"
 
 
 DEADLOCKS = [
@@ -262,14 +248,6 @@ def test_what_no_application_answers(way, answer, error):
             WAYS[way](card, bytes.fromhex("00B0000505"))
         assert error is not CallError or found.value.name == "GT_ARGUMENT"
         is_as_after_a_reset(card)
-
-
-def test_what_an_application_answers():
-    for word in (0x6200, 0x6BFF, 0x6D00, 0x6FFF, 0x9000, 0x9FFF):
-        for data in (b"AB", bytearray(b"AB"), memoryview(b"AB")):
-            with own() as card:
-                card.application.answer = (Status(word), data)
-                assert talked(card, "0010000002") == b"AB" + word.to_bytes(2, "big")
 
 
 def test_a_refused_call_changes_nothing():

@@ -360,16 +360,6 @@ def test_fields_of_each_size(size):
             sent = b"" if is_last else ask(0x80 | number << 4)
 
 
-def test_a_command_in_the_middle_of_a_response():
-    """The end answers it with an R-block, and does not carry it out."""
-    it, _ = simulator("")
-    it.carried_out = (done := []).append
-    sent = blocks(it, block(0, 0, SELECT), block(0, 0xC1, b"\x04"), block(0, 0x40, GET_NAME),
-                  block(0, 0, SELECT), block(0, 0x80, b""))
-    assert sent[2:] == [block(0, 0x60, NAME[:4]), block(0, 0x82, b""), block(0, 0, NAME[4:])]
-    assert done == [SELECT, GET_NAME]
-
-
 def test_a_card_whose_first_protocol_is_t0_carries_out_commands_at_t1():
     sent = blocks(simulator("", 0)[0], block(0, 0, SELECT + b"\0"))
     assert sent == [block(0, 0, FCI + b"\x90\0")]
@@ -407,15 +397,6 @@ def test_a_block_that_is_none(damaged):
     it.carried_out = (done := []).append
     [sent] = blocks(it, damaged)
     assert sent[:3].hex() in ("008100", "008200") and not done
-
-
-def test_a_fault_of_blocks_waits_for_blocks():
-    """A card that offers both protocols may talk T=0."""
-    text = "; ".join(f"command 1, {it}" for it in ("lrc", "lose", "double", "nad"))
-    it, struck = simulator(text, 0)
-    assert said(it, SELECT) == [b"\xa4\x61\x0b"] and not struck
-    it, struck = simulator("command 1, nulls 3; command 1, procedure 33")
-    assert blocks(it, block(0, 0, SELECT)) == [block(0, 0, b"\x61\x0b")] and not struck
 
 
 @pytest.mark.parametrize("t", [0, 1])

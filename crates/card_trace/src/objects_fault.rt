@@ -1,11 +1,10 @@
 //! The errors of printing objects, with their texts.
 use std::alloc::AllocError;
-use std::error::Error;
 use std::fmt;
 use tlv_core::TlvFault;
 
 /// Why objects were not printed.
-#[derive(Debug, Drop, PartialEq, Eq)]
+#[derive(Drop)]
 pub enum ObjectsFault {
     /// The bytes are not a list of objects; this is their first fault. Nothing was written.
     Tlv(TlvFault),
@@ -29,8 +28,6 @@ impl fmt::Display for ObjectsFault {
         }
     }
 }
-
-impl Error for ObjectsFault {}
 
 impl From<TlvFault> for ObjectsFault {
     ghost use Rattle.std.specs.Prelude.{◌≡◌};

@@ -1,11 +1,10 @@
 //! The errors of a script, with their texts.
 use crate::script::reason::LineReason;
 use std::alloc::AllocError;
-use std::error::Error;
 use std::fmt;
 
 /// Why a script of `play` or `card` was not carried out to its end.
-#[derive(Debug, Drop, PartialEq, Eq)]
+#[derive(Drop)]
 pub enum PlayFault {
     /// The line with this number, counted from 1, is refused; those before it were carried out, and
     /// their text was written.
@@ -37,8 +36,6 @@ impl fmt::Display for PlayFault {
         }
     }
 }
-
-impl Error for PlayFault {}
 
 impl From<AllocError> for PlayFault {
     ghost use Rattle.std.specs.Prelude.{◌≡◌};

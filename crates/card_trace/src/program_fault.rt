@@ -1,11 +1,10 @@
 //! The errors of the program, with their texts.
 use crate::objects_fault::ObjectsFault;
 use crate::play_fault::PlayFault;
-use std::error::Error;
 use std::fmt;
 
 /// Why the program ends with status 1.
-#[derive(Debug, Drop)]
+#[derive(Drop)]
 pub enum ProgramFault {
     /// A script was not carried out to its end.
     Play(PlayFault),
@@ -36,8 +35,6 @@ impl fmt::Display for ProgramFault {
         }
     }
 }
-
-impl Error for ProgramFault {}
 
 impl From<PlayFault> for ProgramFault {
     ghost use Rattle.std.specs.Prelude.{◌≡◌};

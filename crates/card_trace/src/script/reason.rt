@@ -1,11 +1,10 @@
 //! The reasons to refuse a line of a script, with their texts.
 use apdu_core::ApduFault;
 use atr_core::AtrFault;
-use std::error::Error;
 use std::fmt;
 
 /// Why a line of a script is refused.
-#[derive(Clone, Copy, Debug, PartialEq, Eq)]
+#[derive(Clone, Copy)]
 pub enum LineReason {
     /// No line of the subcommand starts with this word.
     UnknownWord,
@@ -80,8 +79,6 @@ impl fmt::Display for LineReason {
         f.write_str(text)
     }
 }
-
-impl Error for LineReason {}
 
 impl From<ApduFault> for LineReason {
     ghost use Rattle.std.specs.Prelude.{◌≡◌};

@@ -41,7 +41,7 @@ def of_reference_data():
         yield f"data of {header}", sent(header, DIGITS)
     for header in ("0C200081", "84240002", "A02C0000", "A0260001", "C0280001", "FF210001"):
         yield f"data of {header}", sent(header, DIGITS)
-    for header in ("00250001", "002D0001", "8025007F"):
+    for header in ("00250001", "002D0001", "8025007F", "80D80081"):
         yield f"data of {header}", sent(header, DIGITS)
     yield "an object of them", sent("00210080", HALF)
     singles = [it for i in range(0, 16, 2) for it in ("< DF", f"> {DIGITS[i : i + 2]}")]

@@ -12,10 +12,10 @@ use Rattle.trace_explain.specs.declared.describe.mask.Shown.TheVariants.{All, Ob
 use Rattle.trace_explain.specs.WaysOf.{is_among}
 
 -- Reference data: VERIFY, CHANGE REFERENCE DATA, DISABLE and ENABLE VERIFICATION REQUIREMENT, and
--- RESET RETRY COUNTER, of any class, with data of any form.
+-- RESET RETRY COUNTER. Keys: PUT KEY of GlobalPlatform. Of any class, with data of any form.
 abbrev pub is_secret : ℕ → Bool
 is_secret ins = is_among ins
-    (0x20 ∷ 0x21 ∷ 0x24 ∷ 0x25 ∷ 0x26 ∷ 0x28 ∷ 0x2C ∷ 0x2D ∷ [])
+    (0x20 ∷ 0x21 ∷ 0x24 ∷ 0x25 ∷ 0x26 ∷ 0x28 ∷ 0x2C ∷ 0x2D ∷ 0xD8 ∷ [])
 
 -- Data of ENVELOPE (C2) are a command, those of C3 an object that contains one. They may be secret
 -- if its INS is, the second byte of C2. In C3, and behind other parts, that is unknown.

@@ -155,8 +155,8 @@ a date, a number, or what its bits mean. No word is beside a hidden value. `--li
 rows of tags, application identifiers and bits. `--names-file` adds rows in the same form, which
 precede those of the program. Lines with such words may be longer than 100 columns.
 
-With `--mask` reference data are shown as `**`: the data of VERIFY, CHANGE REFERENCE DATA, DISABLE
-and ENABLE VERIFICATION REQUIREMENT and RESET RETRY COUNTER. So are objects with the given tags,
+With `--mask` the data of VERIFY, CHANGE REFERENCE DATA, DISABLE and ENABLE VERIFICATION
+REQUIREMENT, RESET RETRY COUNTER and PUT KEY are shown as `**`. So are objects with the given tags,
 which commas separate, and all data that may be part of one: data that are not a list of objects,
 and parts of a response, a chain or a file. Notes, unexpected bytes, characters before a header,
 parts of a header, and invalid answers may contain any of it, so they are always shown as `**`. So

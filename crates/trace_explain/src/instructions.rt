@@ -191,11 +191,11 @@ fn everywhere(ins: u8) -> Option<Instruction>
 }
 
 /// Whether the data of commands with this INS may be secret, in any class. These are VERIFY, CHANGE
-/// REFERENCE DATA, DISABLE and ENABLE VERIFICATION REQUIREMENT, and RESET RETRY COUNTER.
+/// REFERENCE DATA, DISABLE and ENABLE VERIFICATION REQUIREMENT, RESET RETRY COUNTER and PUT KEY.
 pub fn is_secret(ins: u8) -> bool
     ensures { result ≡ is_secret ins }
 {
-    matches!(ins, 0x20 | 0x21 | 0x24 | 0x25 | 0x26 | 0x28 | 0x2C | 0x2D)
+    matches!(ins, 0x20 | 0x21 | 0x24 | 0x25 | 0x26 | 0x28 | 0x2C | 0x2D | 0xD8)
 }
 
 /// Whether commands of this class have secure messaging (ISO/IEC 7816-4, 5.4.1).

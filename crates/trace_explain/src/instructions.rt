@@ -195,7 +195,10 @@ fn everywhere(ins: u8) -> Option<Instruction>
 pub fn is_secret(ins: u8) -> bool
     ensures { result ≡ is_secret ins }
 {
-    matches!(ins, 0x20 | 0x21 | 0x24 | 0x25 | 0x26 | 0x28 | 0x2C | 0x2D | 0xD8)
+    matches!(
+        ins,
+        0x20 | 0x21 | 0x24 | 0x25 | 0x26 | 0x28 | 0x2C | 0x2D | 0xD8
+    )
 }
 
 /// Whether commands of this class have secure messaging (ISO/IEC 7816-4, 5.4.1).

@@ -177,6 +177,7 @@ impl Blocks {
         match self.gathered.from() {
             _ if self.is_answered => (&[], &[]),
             BlockEnd::Terminal => (so_far, &[]),
+            BlockEnd::Card if self.command.is_empty() => (&[], &[]),
             BlockEnd::Card => (self.command.as_slice(), so_far),
         }
     }

@@ -246,10 +246,10 @@ fn respond_given(
     Ok(hand_out(kept, 0, status, le, response))
 }
 
-/// What is still needed of the application at a header, if `bytes` are the data to the card.
-/// Nothing is needed for INS `6X` or `9X`, for GET RESPONSE, and for the header and P3 that get a
-/// response after `6CXX`. A response is not needed if one was given, or if the terminal sends data
-/// and `bytes` are not P3 in number.
+/// What is still needed of the application at a header, if `bytes` are the data to the card:
+/// nothing for INS `6X` or `9X`, for GET RESPONSE, and for the header and P3 that get a response
+/// after `6CXX`. A response is not needed if one was given, or if the terminal sends data and
+/// `bytes` are not P3 in number.
 #[inline(never)]
 pub fn needed_by(card: &CommandCard<Given>, header: Header, p3: u8, bytes: &[u8]) -> Need
     ensures needs { wanted_by card.now header p3 bytes.now

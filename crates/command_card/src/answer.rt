@@ -47,12 +47,24 @@ pub(crate) fn pending_for(
         ≡ pending_for (left_of kept.now.items waiting.now) header p3 }
 {
     match waiting {
-        Waiting::Fetch { from, status } if header.ins == GET_RESPONSE => Some((*from, *status)),
+        Waiting::Nothing => None,
+        Waiting::Fetch { from, status } => {
+            if header.ins == GET_RESPONSE {
+                Some((*from, *status))
+            } else {
+                None
+            }
+        }
         Waiting::Repeat {
             header: first,
             status,
-        } if same_header(*first, header) && kept.len() == p3 as usize => { Some((0, *status)) }
-        _ => None,
+        } => {
+            if same_header(*first, header) && kept.len() == p3 as usize {
+                Some((0, *status))
+            } else {
+                None
+            }
+        }
     }
 }
 

@@ -17,7 +17,7 @@ use Rattle.command_card.specs.declared.ready.Ready.{Ready}
 use Rattle.command_card.specs.declared.ready.Ready.TheVariants as ready
 use Rattle.command_card.specs.Carrying.{Did, Makes, asking, taking}
 use Rattle.command_card.specs.State.{CardState, Hand, For_repeat, Outcome, announcing, fetch_left, handed, is_fetch, pending_for, refusing, same_header}
-use Rattle.command_card.specs.Meaning.{Answers, Brings, CarriesAsked, CarriesTaken, Does, DoesBy, Kind, kind_in, kind_of, Takes, Asks, Hands}
+use Rattle.command_card.specs.Meaning.{Answers, Brings, CarriesAsked, CarriesTaken, Does, DoesBy, Kind, kind_in, kind_of, Invalid, Unfetched, Takes, Asks, Hands}
 use Rattle.command_card.specs.View.{left_of, state_of, state_after, buffer_of, ask_of, prepared_of, IsReady, IsEnded, Prepares, MayReceive, MaySend, WaitsFor}
 use Rattle.command_card.specs.Wanted.{is_free}
 use Rattle.command_card.proofs.HandLemmas.{count_some}
@@ -34,7 +34,9 @@ made_is o P parts value made is =
 
 pub is_nothing : (r : Ready) → is_free r ≡ true → r ≡ ready.Nothing
 is_nothing ready.Nothing is = refl
-is_nothing other is = absurd (cc)
+is_nothing (ready.Receives h p3 cut) is = absurd (cc)
+is_nothing (ready.Sends h p3 cut from status ending) is = absurd (cc)
+is_nothing (ready.Leaves ending) is = absurd (cc)
 
 pub refusal_is : (v : Verdict) (status : StatusWord) → v ≡ Refuse status → IsRefusal v
 refusal_is v status is = subst IsRefusal (sym is) tt
@@ -227,25 +229,32 @@ module _ {S : Type 0} (takes : S → Header → Bool) (Act : S → Did → S →
 -- the header of a command that takes data
 takes_kind : (v : Bool) (p : Option Hand) (fetches takes : Bool)
     → kind_of v p fetches takes ≡ Takes → (fetches ≡ false) × (takes ≡ true)
+takes_kind false p f t e = absurd (cc)
+takes_kind true (Some hand) f t e = absurd (cc)
+takes_kind true None true t e = absurd (cc)
 takes_kind true None false true e = (refl, refl)
-takes_kind v p f t e = absurd (cc)
+takes_kind true None false false e = absurd (cc)
 
 asks_kind : (v : Bool) (p : Option Hand) (fetches takes : Bool)
     → kind_of v p fetches takes ≡ Asks → takes ≡ false
+asks_kind false p f t e = absurd (cc)
+asks_kind true (Some hand) f t e = absurd (cc)
+asks_kind true None true t e = absurd (cc)
+asks_kind true None false true e = absurd (cc)
 asks_kind true None false false e = refl
-asks_kind v p f t e = absurd (cc)
 
 hands_kind : (v : Bool) (p : Option Hand) (fetches takes : Bool) (hand : Hand)
     → kind_of v p fetches takes ≡ Hands hand → p ≡ Some hand
-hands_kind true (Some other) f t hand e = cc
 hands_kind false p f t hand e = absurd (cc)
+hands_kind true (Some other) f t hand e = cc
 hands_kind true None true t hand e = absurd (cc)
 hands_kind true None false true hand e = absurd (cc)
 hands_kind true None false false hand e = absurd (cc)
 
 pub both_true : (a b : Bool) → (a && b) ≡ true → (a ≡ true) × (b ≡ true)
 both_true true true e = (refl, refl)
-both_true a b e = absurd (cc)
+both_true true false e = absurd (cc)
+both_true false b e = absurd (cc)
 
 pub headers_same : (g h : Header) → same_header g h ≡ true → g ≡ h
 headers_same g h e =
@@ -294,11 +303,15 @@ module _ {S : Type 0} (takes : S → Header → Bool) (Act : S → Did → S →
       → ((hand : Hand) → pending_for old.left t.header t.p3 ≡ Some hand
       → MaySend takes t.header)
       → MaySend takes t.header
+  may_send old new cut t Invalid kind does some waits =
+      absurd (omega (arith, some, ap length does.brings.received_is))
+  may_send old new cut t Unfetched kind does some waits =
+      absurd (omega (arith, some, ap length does.brings.received_is))
+  may_send old new cut t Takes kind does some waits =
+      absurd (omega (arith, some, ap length does.brings.received_is))
   may_send old new cut t Asks kind does some waits = inr (old.app, asks_kind _ _ _ _ kind)
   may_send old new cut t (Hands hand) kind does some waits =
       waits hand (hands_kind _ _ _ _ hand kind)
-  may_send old new cut t other kind does some waits =
-      absurd (omega (arith, some, ap length does.brings.received_is))
 
   pub permits : (app next : S) (kept fresh : List ℕ) (w : Waiting) (h : Header) (p3 cut : ℕ)
       (v : Verdict) (r : Ready) → ((again : Header) → WaitsFor w again → MaySend takes again)
@@ -310,6 +323,10 @@ module _ {S : Type 0} (takes : S → Header → Bool) (Act : S → Did → S →
   permits app next kept fresh w h p3 cut Receive (ready.Receives g q c) waits is fits =
       let kind = takes_kind _ _ _ _ fits.0 in
       subst (MayReceive takes) (ap (λ (a : Ask). a.header) is) (kind.0, app, kind.1)
+  permits app next kept fresh w h p3 cut Receive ready.Nothing waits never fits = absurd never
+  permits app next kept fresh w h p3 cut Receive (ready.Sends _ _ _ _ _ _) waits never fits =
+      absurd never
+  permits app next kept fresh w h p3 cut Receive (ready.Leaves _) waits never fits = absurd never
   permits app next kept fresh w h p3 cut Send (ready.Sends g q c from status ending) waits
       (is, long) fits =
       let t : Tpdu = answered_with (ask_of g q c)
@@ -324,4 +341,7 @@ module _ {S : Type 0} (takes : S → Header → Bool) (Act : S → Did → S →
       (may_send (state_of app kept w) (state_after app next kept fresh ending) c t
       (kind_in takes (state_of app kept w) g q) refl fits
       (omega (arith, long, count_some p3)) hands)
-  permits _ _ _ _ _ _ _ _ _ _ _ never _ = absurd never
+  permits app next kept fresh w h p3 cut Send ready.Nothing waits never fits = absurd never
+  permits app next kept fresh w h p3 cut Send (ready.Receives _ _ _) waits never fits =
+      absurd never
+  permits app next kept fresh w h p3 cut Send (ready.Leaves _) waits never fits = absurd never

@@ -7,10 +7,10 @@ ghost use Rattle.command_card.specs.declared.applet.TheConstants.{RESPONSE_ROOM}
 ghost use Rattle.command_card.specs.Given.{Gives, at_rest, settled, takes_data};
 ghost use Rattle.command_card.specs.AtT1.{Responds, may_bring};
 ghost use Rattle.command_card.specs.View.{WaitsFor, standing_in, state_of, prepared_in};
-ghost use Rattle.command_card.specs.Wanted.{IsNotTaken, IsTaken, IsWanted, RespondsAs, forgotten_by, is_free, is_known, may_decide, taken_back, wanted_as, wanted_by, wanted_for, wanted_with};
+ghost use Rattle.command_card.specs.Wanted.{IsNotTaken, IsTaken, IsWanted, RespondsAs, forgotten_by, is_free, is_open, is_known, may_decide, need_in, taken_back, wanted_as, wanted_by, wanted_for, wanted_with};
 
 use crate::answer::{pending_for, wipe, wipe_ended, word};
-use crate::applet::{RESPONSE_ROOM, hand_out, shown, write};
+use crate::applet::{RESPONSE_ROOM, hand_out, write};
 use crate::application::{Application, GET_RESPONSE, OWN_RESPONSE_LIMIT};
 use crate::card::CommandCard;
 use crate::given::{Directions, Given};
@@ -56,6 +56,13 @@ pub enum GiveFault {
     OutOfMemory,
 }
 
+/// Whether the application may still be given something: the card has prepared no answer.
+fn is_open(ready: &Ready) -> bool
+    ensures { result ≡ is_open ready.now }
+{
+    matches!(ready, Ready::Nothing | Ready::Receives { .. })
+}
+
 /// Whether no TPDU has reached the card.
 fn is_free(ready: &Ready) -> bool
     ensures { result ≡ is_free ready.now }
@@ -67,7 +74,10 @@ fn is_free(ready: &Ready) -> bool
 fn is_known(directions: Directions) -> bool
     ensures { result ≡ is_known directions }
 {
-    !matches!(directions, Directions::Unknown)
+    match directions {
+        Directions::Table(_) | Directions::Known(_) => true,
+        Directions::Unknown => false,
+    }
 }
 
 impl Open for CommandCard<Given> {}
@@ -75,6 +85,31 @@ impl Open for CommandCard<Given> {}
 impl CommandCard<Given> {
     ghost use Rattle.std.specs.Prelude.{◌≡◌};
     ghost use Rattle.command_card.specs.View.{standing_in, prepared_in};
+
+    /// What the application is needed for, to answer this header, whether or not a response was
+    /// given already. Nothing for INS `6X` or `9X`, for GET RESPONSE, and for the header and P3
+    /// that get a response after `6CXX`.
+    pub fn need(&self, header: Header, p3: u8) -> Need
+        ensures { result ≡ need_in (standing_in at_rest self.now) header p3 }
+    {
+        if !header.ins_is_valid() {
+            return Need::Nothing;
+        }
+        if pending_for(&self.waiting, &self.kept, header, p3).is_some() {
+            return Need::Nothing;
+        }
+        if header.ins == GET_RESPONSE {
+            return Need::Nothing;
+        }
+        if !is_known(self.application.directions()) {
+            return Need::Direction;
+        }
+        if self.application.takes_data(header) {
+            Need::AfterData
+        } else {
+            Need::AtHeader
+        }
+    }
 
     /// Takes the response to the command in progress.
     ///
@@ -91,8 +126,7 @@ impl CommandCard<Given> {
         ensures done { OnOk result (IsTaken self.old bytes.now status self.new) }
         ensures why { IfErr result (λ f. IsNotTaken self.old bytes.now status f) }
     {
-        let is_open = matches!(self.ready, Ready::Nothing | Ready::Receives { .. });
-        if !is_open || self.application.has_response() {
+        if !is_open(&self.ready) || self.application.has_response() {
             return Err(GiveFault::NotWanted);
         }
         if bytes.len() > OWN_RESPONSE_LIMIT {
@@ -238,7 +272,13 @@ fn respond_given(
             }
         };
     }
-    if shown(application.takes_data(header), command).is_none() {
+    let has_none = command.data().is_empty();
+    let is_wrong = if application.takes_data(header) {
+        has_none && le.is_some()
+    } else {
+        !has_none
+    };
+    if is_wrong {
         write(&[], word(0x67, 0x00), response);
         return Ok(Waiting::Nothing);
     }
@@ -246,34 +286,29 @@ fn respond_given(
     Ok(hand_out(kept, 0, status, le, response))
 }
 
-/// What is still needed of the application at a header, if `bytes` are the data to the card:
-/// nothing for INS `6X` or `9X`, for GET RESPONSE, and for the header and P3 that get a response
-/// after `6CXX`. A response is not needed if one was given, or if the terminal sends data and
-/// `bytes` are not P3 in number.
+/// What is still needed of the application at a header, if `bytes` are the data to the card. A
+/// response is not needed if one was given, or if the terminal sends data and `bytes` are not P3
+/// in number.
 #[inline(never)]
 pub fn needed_by(card: &CommandCard<Given>, header: Header, p3: u8, bytes: &[u8]) -> Need
-    ensures needs { wanted_by card.now header p3 bytes.now
-        ≡ wanted_as result header p3 bytes.now }
-    ensures whole { result ≡ Need.AfterData → length bytes.now ≡ p3 }
+    ensures { wanted_by card.now header p3 bytes.now ≡ wanted_as result header p3 bytes.now }
 {
-    let application = &card.application;
-    let pending = pending_for(&card.waiting, &card.kept, header, p3);
-    if !header.ins_is_valid() || pending.is_some() || header.ins == GET_RESPONSE {
+    if !header.ins_is_valid() {
         return Need::Nothing;
     }
-    if !is_known(application.directions()) {
-        return Need::Direction;
-    }
-    if application.has_response() {
+    if card.application.has_response() && is_known(card.application.directions()) {
         return Need::Nothing;
     }
-    if !application.takes_data(header) {
-        return Need::AtHeader;
-    }
-    if bytes.len() == p3 as usize {
-        Need::AfterData
-    } else {
-        Need::Nothing
+    match card.need(header, p3) {
+        Need::Nothing => Need::Nothing,
+        Need::Direction => Need::Direction,
+        Need::AtHeader => Need::AtHeader,
+        Need::AfterData => {
+            if bytes.len() != p3 as usize {
+                return Need::Nothing;
+            }
+            Need::AfterData
+        }
     }
 }
 
@@ -284,11 +319,25 @@ fn wanted_by<'a>(card: &CommandCard<Given>, header: Header, p3: u8, bytes: &'a [
     if !header.ins_is_valid() {
         return Wanted::Nothing;
     }
-    match needed_by(card, header, p3, bytes) {
+    let is_given = card.application.has_response();
+    if is_given && is_known(card.application.directions()) {
+        return Wanted::Nothing;
+    }
+    match card.need(header, p3) {
         Need::Nothing => Wanted::Nothing,
         Need::Direction => Wanted::Direction(header),
-        Need::AtHeader => { Wanted::Response(Command::new(header, &[], Some(count(p3))).unwrap()) }
-        Need::AfterData => Wanted::Response(Command::new(header, bytes, None).unwrap()),
+        Need::AtHeader => {
+            if is_given {
+                return Wanted::Nothing;
+            }
+            Wanted::Response(Command::new(header, &[], Some(count(p3))).unwrap())
+        }
+        Need::AfterData => {
+            if is_given || bytes.len() != p3 as usize {
+                return Wanted::Nothing;
+            }
+            Wanted::Response(Command::new(header, bytes, None).unwrap())
+        }
     }
 }
 
@@ -296,11 +345,13 @@ fn wanted_by<'a>(card: &CommandCard<Given>, header: Header, p3: u8, bytes: &'a [
 fn wanted_after<'a>(card: &CommandCard<Given>, bytes: &'a [u8]) -> Wanted<'a>
     ensures { result ≡ wanted_with card.now (Some bytes.now) }
 {
+    if card.application.has_response() {
+        return Wanted::Nothing;
+    }
     let Ready::Receives { header, p3, .. } = card.ready else {
         return Wanted::Nothing;
     };
-    let is_whole = header.ins_is_valid() && bytes.len() == p3 as usize;
-    if card.application.has_response() || !is_whole {
+    if !header.ins_is_valid() || bytes.len() != p3 as usize {
         return Wanted::Nothing;
     }
     Wanted::Response(Command::new(header, bytes, None).unwrap())
@@ -341,10 +392,17 @@ pub fn wanted_by_command<'a>(end: &CardEnd<CommandCard<Given>>, command: &Comman
     if application.has_response() {
         return Wanted::Nothing;
     }
-    match shown(application.takes_data(header), command) {
-        Some(told) => Wanted::Response(told),
-        None => Wanted::Nothing,
+    let (bytes, le) = (command.data(), command.le());
+    if application.takes_data(header) {
+        if bytes.is_empty() && le.is_some() {
+            return Wanted::Nothing;
+        }
+        return Wanted::Response(Command::new(header, bytes, None).unwrap());
     }
+    if !bytes.is_empty() {
+        return Wanted::Nothing;
+    }
+    Wanted::Response(Command::new(header, &[], Some(le.unwrap_or(256))).unwrap())
 }
 
 /// Gives the response to the command in progress, with the errors of `CommandCard::give`.

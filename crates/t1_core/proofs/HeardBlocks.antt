@@ -1,9 +1,8 @@
 -- What one more block changes at a tap that has missed nothing.
-use Rattle.std.proofs.Common.{◌≡◌, refl, sym, ap, subst, ◌∙◌, ℕ, Bool, true, false, not, List, [], ◌∷◌, ◌++◌, length, Option, Some, append-nil, cond}
+use Rattle.std.proofs.Common.{◌≡◌, ◌≢◌, refl, sym, ap, subst, ◌∙◌, ℕ, Bool, true, false, not, List, [], ◌∷◌, ◌++◌, length, Some, append-nil, cond}
 use Rattle.std.proofs.lemmas.Bool.{eq-eqb}
 use Rattle.std.proofs.Math.Seq.{take-append_seam, take-length}
 use Rattle.std.specs.List.{AllByRecursion}
-use Rattle.t1_core.specs.declared.block.Control.{Control}
 use Rattle.t1_core.specs.declared.block.Control.TheVariants.{Ifs, Wtx}
 use Rattle.t1_core.specs.declared.gathered.Progress.{Progress}
 use Rattle.t1_core.specs.declared.gathered.Progress.TheVariants.{Nothing, Begun, Whole, Unknown}
@@ -19,7 +18,7 @@ use Rattle.t1_core.specs.Gathering.{Gathered}
 use Rattle.t1_core.specs.Hearing.{AreItems, Heard, Item}
 use Rattle.t1_core.specs.Items.{Found, Valid, Damaged, Cut}
 use Rattle.t1_core.specs.Overhearing.{IsKnown, Message, Passed, Story, blocks_in, is_known, messages, over_at, tells, tells_all, valid_in}
-use Rattle.t1_core.specs.Reading.{Shape, is_again, is_end, reads}
+use Rattle.t1_core.specs.Reading.{goes, is_again, is_end, numbers_of, peer, reads, sent}
 use Rattle.t1_core.proofs.Bits.{same_self, same_other_2}
 
 -- ---- blocks, one after another
@@ -32,36 +31,14 @@ Then P r s (p ∷ ps) =
     × Then P (reads r p.0 (Valid p.1)).1
     (tells s p.0 (reads r p.0 (Valid p.1)).0 (Valid p.1)) ps
 
-pub then_more : (P : Reading → Story → Type 0) (r : Reading) (s : Story) (ps qs : List Passed)
-    → Then (λ r' s'. Then P r' s' qs) r s ps → Then P r s (ps ++ qs)
-then_more P r s [] qs h = h
-then_more P r s (p ∷ ps) qs h = (
-  h.0,
-  then_more P (reads r p.0 (Valid p.1)).1 (tells s p.0 (reads r p.0 (Valid p.1)).0 (Valid p.1)) ps
-      qs h.1,
-)
+abbrev pub One : (Reading → Story → Type 0) → Reading → Story → End → Block → Type 0
+One P r s from b = Then P r s ((from, b) ∷ [])
 
-pub then_all : (P Q : Reading → Story → Type 0) (r : Reading) (s : Story) (ps : List Passed)
-    → ((r' : Reading) (s' : Story) → P r' s' → Q r' s') → Then P r s ps → Then Q r s ps
-then_all P Q r s [] by h = by r s h
-then_all P Q r s (p ∷ ps) by h = (
-  h.0,
-  then_all P Q (reads r p.0 (Valid p.1)).1 (tells s p.0 (reads r p.0 (Valid p.1)).0 (Valid p.1)) ps
-      by h.1,
-)
-
--- ---- the newest command or response
-
-abbrev pub story : List Message → End → (front field : List ℕ) → Progress → Story
-story given from front field p = record {
-  given = given;
-  now = record {
-    from = from;
-    bytes = front ++ field;
-    place = length front;
-    progress = p;
-  };
-}
+pub then_more : (P Q : Reading → Story → Type 0) (ps qs : List Passed)
+    → ((r' : Reading) (s' : Story) → P r' s' → Then Q r' s' qs) → (r : Reading) (s : Story)
+    → Then P r s ps → Then Q r s (ps ++ qs)
+then_more P Q [] qs by r s h = by r s h
+then_more P Q (p ∷ ps) qs by r s h = (h.0, then_more P Q ps qs by _ _ h.1)
 
 over_none : (p : Progress) (g : Gathered) → g.progress ≡ p → over_at g.progress g ≡ []
 over_none Nothing g is = rw is refl
@@ -70,171 +47,250 @@ over_none Whole g is = rw is refl
 over_none Unknown g is = rw is refl
 
 -- a block without a field changes nothing
-pub stays : (s : Story)
-    → record { given = s.given ++ over_at s.now.progress s.now; now = s.now } ≡ s
+stays : (s : Story) → record { given = s.given ++ over_at s.now.progress s.now; now = s.now } ≡ s
 stays s = rw (over_none s.now.progress s.now refl) (rw (append-nil s.given) refl)
 
-abbrev pub progress : (more : Bool) → Progress
-progress more = cond (not more) Whole Begun
+-- ---- what the tap knows between two blocks
 
-next_field : (given : List Message) (from : End) (front field : List ℕ) (p : Progress)
-    (n more : Bool) (f : List ℕ)
-    → tells (story given from front field p) from (role.Field false (not more)) (Valid (I n more f))
-    ≡ story given from (front ++ field) f (progress more)
-next_field given from front field p n true f =
-    rw (append-nil given) (rw (take-length (front ++ field)) refl)
-next_field given from front field p n false f =
-    rw (append-nil given) (rw (take-length (front ++ field)) refl)
+-- what has no part in this: whether the card has asked for a block again
+abbrev bare : Reading → Reading
+bare r = record r { missed = false; again = false }
 
-field_again : (given : List Message) (from : End) (front field : List ℕ) (p : Progress)
-    (n more : Bool) (f : List ℕ)
-    → tells (story given from front field p) from (role.Repetition (not more)) (Valid (I n more f))
-    ≡ story given from front f (progress more)
-field_again given Terminal front field p n true f =
-    rw (append-nil given) (rw (take-append_seam front field) refl)
-field_again given Terminal front field p n false f =
-    rw (append-nil given) (rw (take-append_seam front field) refl)
-field_again given Card front field p n true f =
-    rw (append-nil given) (rw (take-append_seam front field) refl)
-field_again given Card front field p n false f =
-    rw (append-nil given) (rw (take-append_seam front field) refl)
+abbrev pub Here : (Reading → Story → Type 0) → Reading → Story → Type 0
+Here Q r s = (r.missed ≡ false) × Q (bare r) s
+
+-- the first fields of the command or response of `turn`, if it is within one
+abbrev pub Newest : (within : Bool) → (turn : End) → List ℕ → Gathered → Type 0
+Newest true turn bytes g = (g.progress ≡ Begun) × (g.from ≡ turn) × (g.bytes ≡ bytes)
+Newest false turn bytes g = (g.progress ≢ Begun) × (bytes ≡ [])
+
+abbrev pub put : End → (front field : List ℕ) → (more : Bool) → Gathered
+put from front field more = record {
+  from = from;
+  bytes = front ++ field;
+  place = length front;
+  progress = cond (not more) Whole Begun;
+}
+
+-- N(S) of both ends, the messages before `rest`, and the bytes so far of the next one
+pub record Level (tn cn : Bool) (turn : End) (rest done : List Message) (bytes : List ℕ)
+    (r : Reading) (s : Story) : Type 0 where
+  pub terminal_next : r.terminal.next ≡ tn
+  pub card_next : r.card.next ≡ cn
+  pub turn_is : r.turn ≡ turn
+  pub told : messages s ++ rest ≡ done
+  pub newest : Newest r.within turn bytes s.now
+
+-- the newest block is this field of this end; `rest` follows the messages before it
+pub record New (from : End) (own peers : Bool) (rest done : List Message) (front field : List ℕ)
+    (more : Bool) (r : Reading) (s : Story) : Type 0 where
+  pub own_next : (numbers_of from r).next ≡ own
+  pub peers_next : (numbers_of (peer from) r).next ≡ peers
+  pub turn : r.turn ≡ cond more from (peer from)
+  pub within : r.within ≡ more
+  pub newest : (numbers_of from r).newest ≡ Some (more, length field)
+  pub told : s.given ++ rest ≡ done
+  pub now : s.now ≡ put from front field more
 
 -- ---- one block
 
-abbrev pub reading : (terminal card : Bool) → End → (within : Bool) → (old new : Option Shape)
-    → (again : Bool) → Reading
-reading terminal card turn within old new again = record {
-  missed = false;
-  turn = turn;
-  within = within;
-  terminal = record { next = terminal; newest = old };
-  card = record { next = card; newest = new };
-  again = again;
-}
+abbrev pub IsPlain : Block → Type 0
+IsPlain (R number reason) = Unit {0}
+IsPlain (Request control) = Unit {0}
+IsPlain (Response (Ifs size)) = Unit {0}
+IsPlain (Response (Wtx multiple)) = Unit {0}
+IsPlain _ = ⊥
 
-abbrev pub One : (Reading → Story → Type 0) → Reading → Story → End → Block → Type 0
-One P r s from b = Then P r s ((from, b) ∷ [])
+-- a block without a field changes at most whether the card has asked for one again
+pub plain : (Q : Reading → Story → Type 0) (r : Reading) (s : Story) (from : End) (b : Block)
+    → IsPlain b → Here Q r s → One (Here Q) r s from b
+plain Q r s from (I number more field) is h = absurd is
+plain Q r s from (R number why) is h =
+    by from r.missed (cond (same number (numbers_of (peer from) r).next)
+    (cond r.within (not (is_end from r.turn)) false) false)
+    (cond r.again true
+    (is_again (same number (numbers_of (peer from) r).next) r.within from r.turn)) h.0 where
+      by : (end : End) (missed next again : Bool) → missed ≡ false
+          → let read : Role × Reading = cond missed (role.Unknown, r)
+          (cond next (role.Acknowledgement, r) (role.Asks, record r { again = again })) in
+          (is_known read.0 ≡ true) × Here Q read.1 (tells s end read.0 (Valid (R number why)))
+      by end true next again was = absurd (let is = was in cc)
+      by Terminal false true again was = (refl, subst (Here Q r) (sym (stays s)) h)
+      by Terminal false false again was = (refl, subst (Here Q r) (sym (stays s)) h)
+      by Card false true again was = (refl, subst (Here Q r) (sym (stays s)) h)
+      by Card false false again was = (refl, subst (Here Q r) (sym (stays s)) h)
+plain Q r s Terminal (Request control) is h = (refl, subst (Here Q r) (sym (stays s)) h)
+plain Q r s Card (Request control) is h = (refl, subst (Here Q r) (sym (stays s)) h)
+plain Q r s Terminal (Response (Ifs size)) is h = (refl, subst (Here Q r) (sym (stays s)) h)
+plain Q r s Card (Response (Ifs size)) is h = (refl, subst (Here Q r) (sym (stays s)) h)
+plain Q r s Terminal (Response (Wtx multiple)) is h = (refl, subst (Here Q r) (sym (stays s)) h)
+plain Q r s Card (Response (Wtx multiple)) is h = (refl, subst (Here Q r) (sym (stays s)) h)
+plain Q r s from _ is h = absurd is
 
-module _ (P : Reading → Story → Type 0) (s : Story) where
-  pub requested : (r : Reading) (from : End) (control : Control) → P r s
-      → One P r s from (Request control)
-  requested r Terminal control h = (refl, subst (P r) (sym (stays s)) h)
-  requested r Card control h = (refl, subst (P r) (sym (stays s)) h)
+-- the block is read so, and told so
+one : (P : Reading → Story → Type 0) (r now : Reading) (s told : Story) (from : End) (b : Block)
+    (role : Role) → reads r from (Valid b) ≡ (role, now) → is_known role ≡ true
+    → tells s from role (Valid b) ≡ told → P now told → One P r s from b
+one P r now s told from b role is known so p =
+    subst (λ x. (is_known x.0 ≡ true) × P x.1 (tells s from x.0 (Valid b))) (sym is)
+    (known, subst (P now) (sym so) p)
 
-  pub ifs_granted : (r : Reading) (from : End) (size : ℕ) → P r s
-      → One P r s from (Response (Ifs size))
-  ifs_granted r Terminal size h = (refl, subst (P r) (sym (stays s)) h)
-  ifs_granted r Card size h = (refl, subst (P r) (sym (stays s)) h)
+-- the card asks for the terminal's field again
+pub asked : (n : Bool) {cn more : Bool} {rest done : List Message} {front field : List ℕ} (r : Reading)
+    (s : Story) (why : BlockReason) → Here (New Terminal (other n) cn rest done front field more) r s
+    → One (λ r' s'. Here (New Terminal (other n) cn rest done front field more) r' s'
+    × (r'.again ≡ true)) r s Card (R n why)
+asked n {cn} {more} {rest} {done} {front} {field} r s why h =
+    one (λ r' s'. Here (New Terminal (other n) cn rest done front field more) r' s'
+    × (r'.again ≡ true)) r (record r { again = true }) s s Card (R n why) role.Asks is refl (stays s)
+    (h, refl) where
+      so : (again more : Bool) → cond again true (is_again false more Card (cond more Terminal Card))
+          ≡ true
+      so true more = refl
+      so false true = refl
+      so false false = refl
 
-  pub time_granted : (r : Reading) (multiple : ℕ) → P r s
-      → One P r s Terminal (Response (Wtx multiple))
-  time_granted r multiple h = (refl, subst (P r) (sym (stays s)) h)
+      is : reads r Card (Valid (R n why)) ≡ (role.Asks, record r { again = true })
+      is = rw (h.0, h.1.own_next, h.1.turn, h.1.within, same_other_2 n, so r.again more) refl
 
-  -- R changes only whether the card has asked for a block again
-  pub ready_again : (tn cn : Bool) (turn : End) (within : Bool) (old new : Option Shape)
-      (again : Bool) (from : End) (n : Bool) (why : BlockReason)
-      → ((now : Bool) → P (reading tn cn turn within old new now) s)
-      → One P (reading tn cn turn within old new again) s from (R n why)
-  ready_again tn cn turn within old new again Terminal n why h =
-      by (cond (same n cn) (cond within (not (is_end Terminal turn)) false) false) where
-        r : Reading
-        r = reading tn cn turn within old new again
+same_end : (e : End) → is_end e e ≡ true
+same_end Terminal = refl
+same_end Card = refl
 
-        by : (v : Bool) → let read : Role × Reading =
-            cond v (role.Acknowledgement, r) (
-              role.Asks,
-              record r {
-                again = cond again true (is_again (same n cn) within Terminal turn);
-              },
-            ) in
-            (is_known read.0 ≡ true) × P read.1 (tells s Terminal read.0 (Valid (R n why)))
-        by true = (refl, subst (P r) (sym (stays s)) (h again))
-        by false = (refl, subst (P _) (sym (stays s)) (h _))
-  ready_again tn cn turn within old new again Card n why h =
-      by (cond (same n tn) (cond within (not (is_end Card turn)) false) false) where
-        r : Reading
-        r = reading tn cn turn within old new again
+-- an end sends its next field
+pub new_field : (n peers : Bool) (rest done : List Message) (front : List ℕ) (from : End)
+    (more : Bool) (field : List ℕ) (r : Reading) (s : Story) → r.missed ≡ false
+    → (numbers_of from r).next ≡ n → (numbers_of (peer from) r).next ≡ peers → r.turn ≡ from
+    → messages s ++ rest ≡ done → Newest r.within from front s.now
+    → One (Here (New from (other n) peers rest done front field more)) r s from (I n more field)
+new_field n peers rest done front from more field r s missed own theirs turn told newest =
+    one (Here (New from (other n) peers rest done front field more)) r _ s
+    (record { given = messages s; now = put from front field more }) from (I n more field)
+    (role.Field (not r.within) (not more)) (is from missed own turn) refl
+    (told_so r.within s more newest) (kept from missed theirs) where
+      is : (e : End) → r.missed ≡ false → (numbers_of e r).next ≡ n → r.turn ≡ e
+          → reads r e (Valid (I n more field))
+          ≡ (role.Field (not r.within) (not more), goes (sent r e n (more, length field)) e more)
+      is Terminal missed own turn = rw (missed, own, same_self n, turn) refl
+      is Card missed own turn = rw (missed, own, same_self n, turn) refl
 
-        by : (v : Bool) → let read : Role × Reading =
-            cond v (role.Acknowledgement, r) (
-              role.Asks,
-              record r {
-                again = cond again true (is_again (same n tn) within Card turn);
-              },
-            ) in
-            (is_known read.0 ≡ true) × P read.1 (tells s Card read.0 (Valid (R n why)))
-        by true = (refl, subst (P r) (sym (stays s)) (h again))
-        by false = (refl, subst (P _) (sym (stays s)) (h _))
+      told_so : (within : Bool) (s : Story) (more : Bool) → Newest within from front s.now
+          → tells s from (role.Field (not within) (not more)) (Valid (I n more field))
+          ≡ record { given = messages s; now = put from front field more }
+      told_so true s true h = rw (h.0, take-length s.now.bytes, h.2) refl
+      told_so true s false h = rw (h.0, take-length s.now.bytes, h.2) refl
+      told_so false s more h = rw h.1 refl
 
-  -- the card has not received the newest I-block
-  pub asks_again : (n cn more : Bool) (old new : Option Shape) (again : Bool) (why : BlockReason)
-      → P (reading (other n) cn (cond more Terminal Card) more old new true) s
-      → One P (reading (other n) cn (cond more Terminal Card) more old new again) s Card (R n why)
-  asks_again true cn true old new true why h = (refl, subst (P _) (sym (stays s)) h)
-  asks_again true cn true old new false why h = (refl, subst (P _) (sym (stays s)) h)
-  asks_again true cn false old new true why h = (refl, subst (P _) (sym (stays s)) h)
-  asks_again true cn false old new false why h = (refl, subst (P _) (sym (stays s)) h)
-  asks_again false cn true old new true why h = (refl, subst (P _) (sym (stays s)) h)
-  asks_again false cn true old new false why h = (refl, subst (P _) (sym (stays s)) h)
-  asks_again false cn false old new true why h = (refl, subst (P _) (sym (stays s)) h)
-  asks_again false cn false old new false why h = (refl, subst (P _) (sym (stays s)) h)
+      kept : (e : End) → r.missed ≡ false → (numbers_of (peer e) r).next ≡ peers
+          → Here (New e (other n) peers rest done front field more)
+          (goes (sent r e n (more, length field)) e more)
+          (record { given = messages s; now = put e front field more })
+      kept Terminal missed theirs = (
+        missed,
+        record {
+          own_next = refl;
+          peers_next = theirs;
+          turn = refl;
+          within = refl;
+          newest = refl;
+          told = told;
+          now = refl;
+        },
+      )
+      kept Card missed theirs = (
+        missed,
+        record {
+          own_next = refl;
+          peers_next = theirs;
+          turn = refl;
+          within = refl;
+          newest = refl;
+          told = told;
+          now = refl;
+        },
+      )
 
-  pub first_command : (tn cn more : Bool) (old new : Option Shape) (again : Bool) (f : List ℕ)
-      → P (reading (other tn) cn (cond more Terminal Card) more (Some (more, length f)) new false)
-      (story (messages s) Terminal [] f (progress more))
-      → One P (reading tn cn Terminal false old new again) s Terminal (I tn more f)
-  first_command tn cn more old new again f h = rw (same_self tn) (refl, h)
+told_again : (front field : List ℕ) (was : Bool) (from : End) (n more : Bool) (f : List ℕ)
+    (s : Story) → s.now ≡ put from front field was
+    → tells s from (role.Repetition (not more)) (Valid (I n more f))
+    ≡ record { given = s.given; now = put from front f more }
+told_again front field was from n true f s is =
+    rw (is, same_end from, append-nil s.given, take-append_seam front field) refl
+told_again front field was from n false f s is =
+    rw (is, same_end from, append-nil s.given, take-append_seam front field) refl
 
-  pub first_response : (tn cn more : Bool) (old new : Option Shape) (again : Bool) (f : List ℕ)
-      → P (reading tn (other cn) (cond more Card Terminal) more old (Some (more, length f)) false)
-      (story (messages s) Card [] f (progress more))
-      → One P (reading tn cn Card false old new again) s Card (I cn more f)
-  first_response tn cn more old new again f h = rw (same_self cn) (refl, h)
+-- the terminal sends its field again, for which the card has asked, and may cut it
+pub terminal_again : (n : Bool) {cn was : Bool} {rest done : List Message} {front field : List ℕ}
+    (more : Bool) (f : List ℕ) (r : Reading) (s : Story)
+    → Here (New Terminal (other n) cn rest done front field was) r s → r.again ≡ true
+    → One (Here (New Terminal (other n) cn rest done front f more)) r s Terminal (I n more f)
+terminal_again n {cn} {was} {rest} {done} {front} {field} more f r s h again =
+    one (Here (New Terminal (other n) cn rest done front f more)) r
+    (goes (sent r Terminal n (more, length f)) Terminal more) s
+    (record { given = s.given; now = put Terminal front f more }) Terminal (I n more f)
+    (role.Repetition (not more))
+    (rw (h.0, h.1.own_next, again, same_other_2 n) refl) refl (told_again front field was Terminal n more f s h.1.now) (
+      h.0,
+      record {
+        own_next = refl;
+        peers_next = h.1.peers_next;
+        turn = refl;
+        within = refl;
+        newest = refl;
+        told = h.1.told;
+        now = refl;
+      },
+    )
 
-module _ (P : Reading → Story → Type 0) (given : List Message) (front field : List ℕ)
-    (p : Progress) where
-  pub next_command : (tn cn more : Bool) (old new : Option Shape) (again : Bool) (f : List ℕ)
-      → P (reading (other tn) cn (cond more Terminal Card) more (Some (more, length f)) new false)
-      (story given Terminal (front ++ field) f (progress more))
-      → One P (reading tn cn Terminal true old new again) (story given Terminal front field p)
-      Terminal (I tn more f)
-  next_command tn cn more old new again f h =
-      rw (same_self tn)
-      (refl, subst (P _) (sym (next_field given Terminal front field p tn more f)) h)
+-- the card sends its field again
+pub card_again : (n : Bool) {tn more : Bool} {rest done : List Message} {front field : List ℕ} (r : Reading)
+    (s : Story) → Here (New Card (other n) tn rest done front field more) r s
+    → One (Here (New Card (other n) tn rest done front field more)) r s Card (I n more field)
+card_again n {tn} {more} {rest} {done} {front} {field} r s h =
+    one (Here (New Card (other n) tn rest done front field more)) r
+    (sent r Card n (more, length field)) s
+    (record { given = s.given; now = put Card front field more }) Card (I n more field)
+    (role.Repetition (not more)) is refl (told_again front field more Card n more field s h.1.now) (
+      h.0,
+      record {
+        own_next = refl;
+        peers_next = h.1.peers_next;
+        turn = h.1.turn;
+        within = h.1.within;
+        newest = refl;
+        told = h.1.told;
+        now = refl;
+      },
+    ) where
+      no : (again : Bool) → cond again false false ≡ false
+      no true = refl
+      no false = refl
 
-  pub next_response : (tn cn more : Bool) (old new : Option Shape) (again : Bool) (f : List ℕ)
-      → P (reading tn (other cn) (cond more Card Terminal) more old (Some (more, length f)) false)
-      (story given Card (front ++ field) f (progress more))
-      → One P (reading tn cn Card true old new again) (story given Card front field p) Card
-      (I cn more f)
-  next_response tn cn more old new again f h =
-      rw (same_self cn)
-      (refl, subst (P _) (sym (next_field given Card front field p cn more f)) h)
+      is : reads r Card (Valid (I n more field))
+          ≡ (role.Repetition (not more), sent r Card n (more, length field))
+      is = rw (
+        h.0,
+        h.1.own_next,
+        h.1.newest,
+        same_other_2 n,
+        no r.again,
+        same_self more,
+        eq-eqb (length field)
+            (length field) refl,
+      ) refl
 
-  -- the terminal sends its newest I-block again, for which the card has asked
-  pub command_again : (n cn more : Bool) (turn : End) (within : Bool) (old new : Option Shape)
-      (f : List ℕ)
-      → P (reading (other n) cn (cond more Terminal Card) more (Some (more, length f)) new false)
-      (story given Terminal front f (progress more))
-      → One P (reading (other n) cn turn within old new true) (story given Terminal front field p)
-      Terminal (I n more f)
-  command_again n cn more turn within old new f h =
-      rw (same_other_2 n)
-      (refl, subst (P _) (sym (field_again given Terminal front field p n more f)) h)
+-- ---- the field has arrived
 
-  -- the card sends its newest I-block again
-  pub response_again : (tn n more : Bool) (turn : End) (within : Bool) (old : Option Shape)
-      (again : Bool) (f : List ℕ)
-      → P (reading tn (other n) turn within old (Some (more, length f)) false)
-      (story given Card front f (progress more))
-      → One P (reading tn (other n) turn within old (Some (more, length f)) again)
-      (story given Card front field p) Card (I n more f)
-  response_again tn n more turn within old true f h =
-      rw (same_other_2 n) (rw (same_self more) (rw (eq-eqb (length f) (length f) refl)
-      (refl, subst (P _) (sym (field_again given Card front field p n more f)) h)))
-  response_again tn n more turn within old false f h =
-      rw (same_other_2 n) (rw (same_self more) (rw (eq-eqb (length f) (length f) refl)
-      (refl, subst (P _) (sym (field_again given Card front field p n more f)) h)))
+pub more_follows : {from : End} {own peers : Bool} {rest done : List Message} {front field : List ℕ}
+    (r : Reading) (s : Story) → New from own peers rest done front field true r s
+    → (messages s ++ rest ≡ done) × Newest r.within from (front ++ field) s.now
+more_follows {rest = rest} r s h =
+    rw (h.within, h.now) (ap (λ g. g ++ rest) (append-nil s.given) ∙ h.told, (refl, refl, refl))
+
+pub it_ends : {from : End} {own peers : Bool} {rest done : List Message} {front field : List ℕ}
+    (r : Reading) (s : Story) → New from own peers rest done front field false r s
+    → (messages s ≡ s.given ++ (from, front ++ field) ∷ []) × Newest r.within (peer from) [] s.now
+it_ends r s h = rw (h.within, h.now) (refl, (λ begun. absurd (cc), refl))
 
 -- ---- items
 

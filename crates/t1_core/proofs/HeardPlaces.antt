@@ -19,20 +19,20 @@ use Rattle.t1_core.specs.declared.terminal.Cause.TheVariants.{TriesSpent, Extens
 use Rattle.t1_core.specs.declared.gathered.Progress.TheVariants.{Begun}
 use Rattle.t1_core.specs.declared.terminal.Phase.TheVariants.{GivenUp, Over}
 use Rattle.t1_core.specs.declared.terminal.Out.{Out}
+use Rattle.t1_core.specs.declared.terminal.Out.TheVariants.{Asks}
 use Rattle.t1_core.specs.declared.terminal.Outcome.{Outcome}
-use Rattle.t1_core.specs.declared.terminal.Outcome.TheVariants.{InPart, NotCarriedOut, Unknown}
 use Rattle.t1_core.specs.Block.{Block, I, R, Request, Response, is_size, more, other}
 use Rattle.t1_core.specs.CardSide.{Meaning, answers_with, card_damaged, card_takes, carries_out, request_of}
 use Rattle.t1_core.specs.Overhearing.{IsBegun, IsGiven, IsKnown, IsOverheard, Message, Passed, Story, blocks_in, messages, passed, passes, passes_both, tells_all, turns, untold}
 use Rattle.t1_core.specs.TerminalSide.{has_stopped, longest, outcome_of, outcome_with, sends}
+use Rattle.t1_core.specs.Gathering.{Gathered}
 use Rattle.t1_core.specs.Hearing.{AreItems, Heard, Item}
-use Rattle.t1_core.specs.Reading.{fresh}
+use Rattle.t1_core.specs.Reading.{fresh, is_end}
 use Rattle.t1_core.specs.World.{World, run, start}
 use Rattle.t1_core.proofs.Bits.{same_self, same_other_2, other_other}
-use Rattle.t1_core.proofs.HeardBlocks.{One, Then, of_items, then_all, then_more, requested, ifs_granted, time_granted}
-use Rattle.t1_core.proofs.HeardStates.{Asked, Answering, InCommand, Newest, Passing, Quiet, Replied, Sending, answering_ready, asked_ready, command_ready, more_follows, passing_asked, passing_ready, quiet_ready, replied_ready, replies_again, replies_first, replies_next, response_ends, sending_ready, sends_again, sends_field, taken_part, taken_whole}
-use Rattle.t1_core.proofs.Holding.{AddsUp, Holds, HoldsAt, first, first_holds, first_is, heard_holds, many, moves, step_holds}
-use Rattle.t1_core.proofs.Places.{world_after, Kept, Spot, Place, Going, Opens, Behind, Taken, Waits, Grows, Between, Sent, Given_up, Finished, and_rest, arrived, asking, card_at, card_in, comes, comes_next, garbled, garbled_by, grows, heard, is_heard, is_long, misses, numbered, out_at, proceeds, reply_of, requests, runs, starts, step, terminal_at, terminal_in, uses, with_phase, world_of, IsHeard, error_of, is_step}
+use Rattle.t1_core.proofs.HeardBlocks.{Here, IsPlain, Level, New, Newest, One, Then, asked, card_again, it_ends, more_follows, new_field, of_items, plain, terminal_again, then_more}
+use Rattle.t1_core.proofs.Holding.{AddsUp, Holds, HoldsAt, first, first_holds, first_is, heard_holds, many, moves, responding, sending, step_holds}
+use Rattle.t1_core.proofs.Places.{Kept, Spot, Place, Going, Opens, Behind, Taken, Waits, Grows, Between, Sent, Given_up, Finished, arrived, asking, card_at, card_in, comes, comes_next, garbled, grows, heard, is_heard, is_long, misses, numbered, out_at, out_of, proceeds, reply_of, requests, runs, starts, step, terminal_at, terminal_in, uses, with_phase, world_of, IsHeard, error_of, is_step}
 
 -- ---- the blocks of an exchange
 
@@ -57,6 +57,11 @@ abbrev pub garble_at : Kept → Spot → Block
 garble_at k (Waits rest n size granted) = Request (Wtx k.multiple)
 garble_at k (Grows rest size granted) = Request (Ifs size)
 garble_at k s = R (card_in k s).2 Edc
+
+garble_plain : (k : Kept) (s : Spot) → IsPlain (garble_at k s)
+garble_plain k (Waits rest n size granted) = tt
+garble_plain k (Grows rest size granted) = tt
+garble_plain k _ = tt
 
 module _ (m : Meaning) (before : List (List ℕ)) where
   pub garbles_it : (k : Kept) (s : Spot)
@@ -127,60 +132,232 @@ turns_many does past [] = refl
 turns_many does past (x ∷ xs) =
     let rest = turns_many does (past ++ x ∷ []) xs in omega (arith, rest)
 
+-- ---- what the tap knows at each spot
+
+-- responses of the card that are not given yet
+abbrev replies : List (List ℕ) → List Message
+replies [] = []
+replies (r ∷ rs) = (Card, r) ∷ replies rs
+
+-- the sender of the next message, and the bytes of it that were heard
+abbrev turn_in : Spot → End
+turn_in (Opens rest asks) = Terminal
+turn_in (Behind asks collected rest answering) = Terminal
+turn_in (Taken collected b bytes) = Terminal
+turn_in _ = Card
+
+abbrev so_far : Spot → List ℕ
+so_far (Behind asks collected rest answering) = collected
+so_far (Taken collected b bytes) = collected
+so_far (Between got b bytes) = got
+so_far (Sent first got rest) = got
+so_far _ = []
+
+starts_by : (P : Spot → Type 0) (rest : List ℕ) (n : ℕ) (size : Option ℕ)
+    → ((n : ℕ) (size : Option ℕ) → P (Waits rest n size false))
+    → ((size : ℕ) → P (Grows rest size false)) → P (Sent true [] rest) → P (starts rest n size)
+starts_by P rest (suc n) size waits grows sent = waits n size
+starts_by P rest zero (Some size) waits grows sent = grows size
+starts_by P rest zero None waits grows sent = sent
+
+given_after : (got : List ℕ) (a n : ℕ) → 2 * a + 1 ≤ n → IsGiven (outcome_with true [] got) a n
+given_after [] a n few = few
+given_after (b ∷ got) a n few = few
+
+-- the terminal has no field that the card has not received
+abbrev IsReceived : Spot → Type 0
+IsReceived (Behind asks collected rest answering) = ⊥
+IsReceived _ = Unit {0}
+
+-- the outcome in a fault, at the terminal's connector
+abbrev Late : End → World → Outcome → Type 0
+Late at w o = at ≡ Terminal → (cause : Cause) → w.terminal.phase ≡ GivenUp cause
+    → outcome_of w.terminal ≡ o
+
 module _ (m : Meaning) (before commands : List (List ℕ)) where
-  abbrev Up : (done todo answers sends responds : List (List ℕ)) → Type 0
-  Up done todo answers sends responds = AddsUp m before commands done todo answers sends responds
+  abbrev Turns : List (List ℕ) → List Message
+  Turns done = turns m.does before done
 
   abbrev Claim : End → World → Story → Type 0
   Claim at w s = IsOverheard at m before commands w s
 
-  -- this holds of the outcome in a fault, at the terminal's connector
-  abbrev Late : End → World → (Outcome → Type 0) → Type 0
-  Late at w P = at ≡ Terminal → (cause : Cause) → w.terminal.phase ≡ GivenUp cause
-      → P (outcome_of w.terminal)
+  abbrev responds : Kept → Spot → List (List ℕ)
+  responds k s = responding m before commands k s
 
-  abbrev IsLast : Outcome → Type 0
-  IsLast o = o ≢ NotCarriedOut
+  -- what was heard is what both ends have
+  abbrev At : Kept → Spot → Reading → Story → Type 0
+  At k s = Level (card_in k s).2 k.due (turn_in s) (replies (responds k s)) (Turns k.done) (so_far s)
 
-  abbrev IsBefore : Outcome → Type 0
-  IsBefore o = o ≡ NotCarriedOut
+  -- a field that the other end has not received was heard too
+  abbrev Ahead : Kept → Spot → Reading → Story → Type 0
+  Ahead k (Behind asks collected rest answering) =
+      New Terminal (other k.number) k.due [] (Turns k.done) collected k.field (more rest)
+  Ahead k (Sent first got rest) =
+      New Card (other k.due) (cond first (other k.number) k.number)
+      ((Card, got ++ (k.last ++ rest)) ∷ []) (Turns k.done) got k.last (more rest)
+  Ahead k s = At k s
 
-  given_last : (o : Outcome) (a n : ℕ) → 2 * a + 1 ≤ n → IsLast o → IsGiven o a n
-  given_last NotCarriedOut a n few last = absurd (last refl)
-  given_last Unknown a n few last = few
-  given_last InPart a n few last = few
+  -- after the terminal's block, and before the card's reply
+  abbrev Mid : Kept → Spot → End → Reading → Story → Type 0
+  Mid k (Behind asks collected rest answering) Terminal =
+      Ahead k (Behind asks collected rest answering)
+  Mid k (Sent first got rest) Card = Ahead k (Sent first got rest)
+  Mid k s at = At k s
 
-  last_sent : (got : List ℕ) → IsLast (outcome_with true [] got)
-  last_sent [] e = absurd (cc)
-  last_sent (b ∷ got) e = absurd (cc)
+  -- between two exchanges
+  abbrev Inv : Kept → Spot → End → Reading → Story → Type 0
+  Inv k (Behind false collected rest answering) Terminal r t =
+      Here (At k (Behind false collected rest answering)) r t
+      ⊎ (Here (Ahead k (Behind false collected rest answering)) r t × (r.again ≡ true))
+  Inv k s at r t = Here (Mid k s at) r t
 
-  after_last : (at : End) (w : World) (got : List ℕ)
-      → Late at w (λ o. o ≡ outcome_with true [] got) → Late at w IsLast
-  after_last at w got late terminal cause is none = last_sent got (sym (late terminal cause is) ∙
-      none)
+  -- the terminal's block has passed
+  abbrev Passing : Kept → Spot → End → Reading → Story → Type 0
+  Passing k (Behind false collected rest answering) at =
+      Ahead k (Behind false collected rest answering)
+  Passing k s at = Mid k s at
+
+  -- the card has taken it
+  abbrev Received : Kept → Spot → End → Reading → Story → Type 0
+  Received k (Sent first got rest) at r t =
+      At k (Sent first got rest) r t ⊎ Mid k (Sent first got rest) at r t
+  Received k s at r t = Mid k s at r t
+
+  -- the card's reply has passed
+  abbrev Post : Kept → Spot → End → Reading → Story → Type 0
+  Post k (Behind asks collected rest answering) Terminal r t =
+      Here (Ahead k (Behind asks collected rest answering)) r t × (r.again ≡ true)
+  Post k (Sent first got rest) at r t = Here (Ahead k (Sent first got rest)) r t
+  Post k s at r t = Here (Mid k s at) r t
+
+  -- ---- one block
+
+  sends_field : (k : Kept) (asks : Bool) (collected rest : List ℕ) (answering : Bool) (r : Reading)
+      (t : Story) → Here (At k (Behind asks collected rest answering)) r t
+      → One (Here (Ahead k (Behind asks collected rest answering))) r t Terminal
+      (I k.number (more rest) k.field)
+  sends_field k asks collected rest answering r t h =
+      new_field k.number k.due [] (Turns k.done) collected Terminal (more rest) k.field r t h.0
+      h.1.terminal_next h.1.card_next h.1.turn_is h.1.told h.1.newest
+
+  sends_one : (k : Kept) (s : Spot) (at : End) (why : BlockReason) (r : Reading) (t : Story)
+      → Inv k s at r t → One (Here (Passing k s at)) r t Terminal (sent_at k s why)
+  sends_one k (Behind false collected rest answering) Terminal why r t (inl h) =
+      sends_field k false collected rest answering r t h
+  sends_one k (Behind false collected rest answering) Terminal why r t (inr h) =
+      terminal_again k.number (more rest) k.field r t h.0 h.1
+  sends_one k (Behind false collected rest answering) Card why r t h =
+      sends_field k false collected rest answering r t h
+  sends_one k (Waits rest n size true) at why r t h =
+      plain (Mid k (Waits rest n size true) at) r t Terminal (Response (Wtx k.multiple)) tt h
+  sends_one k (Grows rest size true) at why r t h =
+      plain (Mid k (Grows rest size true) at) r t Terminal (Response (Ifs size)) tt h
+  sends_one k s at why r t h = plain (Mid k s at) r t Terminal (sent_at k s why) tt h
+
+  -- the card's next field
+  answers_field : (k : Kept) (first : Bool) (got rest : List ℕ) (r : Reading) (t : Story)
+      → Here (At k (Sent first got rest)) r t
+      → One (Here (Ahead k (Sent first got rest))) r t Card (I k.due (more rest) k.last)
+  answers_field k first got rest r t h =
+      new_field k.due (cond first (other k.number) k.number) ((Card, got ++ (k.last ++ rest)) ∷ [])
+      (Turns k.done) got Card (more rest) k.last r t h.0 h.1.card_next h.1.terminal_next h.1.turn_is
+      h.1.told h.1.newest
+
+  replies_one : (e : BlockReason) (k : Kept) (s : Spot) (at : End) (r : Reading) (t : Story)
+      → IsHeard k s → Here (Received k s at) r t
+      → One (Post k s at) r t Card (reply_of m before e k s)
+  replies_one e k (Behind asks collected rest answering) Terminal r t a h = asked k.number r t e h
+  replies_one e k (Sent first got rest) at r t a (missed, inl h) =
+      answers_field k first got rest r t (missed, h)
+  replies_one e k (Sent first got rest) Terminal r t a (missed, inr h) =
+      answers_field k first got rest r t (missed, h)
+  replies_one e k (Sent first got rest) Card r t a (missed, inr h) = card_again k.due r t (missed, h)
+  replies_one e k (Between got b bytes) at r t a h = absurd a
+  replies_one e k s at r t a h = plain (Mid k s at) r t Card (reply_of m before e k s) tt h
+
+  -- ---- the card takes the terminal's block
+
+  -- after the last field of the command
+  runs_at : (k : Kept) (collected : List ℕ) (r : Reading) (t : Story)
+      → New Terminal (other k.number) k.due [] (Turns k.done) collected k.field false r t
+      → let done : List (List ℕ) = k.done ++ (collected ++ k.field) ∷ [] in
+      let resp : List ℕ = m.does (before ++ done) in
+      Level (other k.number) k.due Card ((Card, take k.ifsd resp ++ drop k.ifsd resp) ∷ [])
+      (Turns done) [] r t
+  runs_at k collected r t h =
+      let done : List (List ℕ) = k.done ++ (collected ++ k.field) ∷ [] in
+      let c : Message = (Terminal, collected ++ k.field) in
+      let ends = it_ends r t h in
+      record {
+        terminal_next = h.own_next;
+        card_next = h.peers_next;
+        turn_is = h.turn;
+        told = ap (λ r. messages t ++ (Card, r) ∷ []) (take-append-drop k.ifsd (m.does
+            (before ++ done)))
+            ∙ ap (λ ts. ts ++ (Card, m.does (before ++ done)) ∷ [])
+            (ends.0 ∙ ap (λ ts. ts ++ c ∷ []) (sym (append-nil t.given) ∙ h.told))
+            ∙ append_assoc (Turns k.done) (c ∷ []) ((Card, m.does (before ++ done)) ∷ [])
+            ∙ sym (turns_last m.does before k.done (collected ++ k.field));
+        newest = ends.1;
+      }
+
+  -- after another field
+  takes_at : (k : Kept) (collected : List ℕ) (r : Reading) (t : Story)
+      → New Terminal (other k.number) k.due [] (Turns k.done) collected k.field true r t
+      → Level (other k.number) k.due Terminal [] (Turns k.done) (collected ++ k.field) r t
+  takes_at k collected r t h =
+      let follows = more_follows r t h in
+      record {
+        terminal_next = h.own_next;
+        card_next = h.peers_next;
+        turn_is = h.turn;
+        told = follows.0;
+        newest = follows.1;
+      }
+
+  takes : (k : Kept) (s : Spot) (at : End) (r : Reading) (t : Story) → Passing k s at r t
+      → Received (heard m before k s).0 (heard m before k s).1 at r t
+  takes k (Behind false collected [] answering) at r t h =
+      let done : List (List ℕ) = k.done ++ (collected ++ k.field) ∷ [] in
+      let now = runs_at k collected r t h in
+      starts_by (λ s. Received (runs m before k done) s at r t) (drop k.ifsd (m.does (before ++
+      done))) (m.asks (before ++ done)).extensions (m.asks (before ++ done)).size (λ n size. now)
+      (λ size. now) (inl now)
+  takes k (Behind false collected (b ∷ bytes) answering) at r t h = takes_at k collected r t h
+  takes k (Waits rest n size true) at r t h =
+      starts_by (λ s. Received k s at r t) rest n size (λ n size. h) (λ size. h) (inl h)
+  takes k (Grows rest size true) at r t h = inl h
+  takes k (Between got b bytes) at r t h =
+      inl (subst (λ resp. Level k.number k.due Card ((Card, got ++ resp) ∷ []) (Turns k.done) got r t)
+      (sym (take-append-drop k.ifsd (b ∷ bytes))) h)
+  takes k (Sent first got rest) at r t h = inr h
+  takes k _ at r t h = h
+
+  -- ---- the claim
 
   -- the number of messages, in a dialogue where the card has carried out `ran`
   abbrev Counts : End → World → (ran : List (List ℕ)) → ℕ → Type 0
   Counts at w ran n = (2 * length w.answers ≤ n) × (n ≤ 2 * length w.answers + 2)
       × (at ≡ Card → (2 * length ran ≤ n + 1) × (n ≤ 2 * length ran))
       × (at ≡ Terminal → w.terminal.phase ≢ GivenUp TooLong → n ≤ 2 * length w.answers + 1)
-      × Late at w (λ o. IsGiven o (length w.answers) n)
+      × (at ≡ Terminal → (cause : Cause) → w.terminal.phase ≡ GivenUp cause
+      → IsGiven (outcome_of w.terminal) (length w.answers) n)
 
-  claim_of : (at : End) (w : World) (ran done todo : List (List ℕ)) (told rest : List Message)
-      (s : Story) → w.card.ran ≡ before ++ ran → messages s ≡ told
-      → told ++ rest ≡ turns m.does before done → done ++ todo ≡ commands
-      → (s.now.progress ≡ Begun → IsBegun s.now (rest ++ turns m.does (before ++ done) todo))
-      → ((n : ℕ) → n + length rest ≡ 2 * length done → Counts at w ran n) → Claim at w s
-  claim_of at w ran done todo told rest s ran_is is part all begun counts =
-      let more : List Message = turns m.does (before ++ done) todo in
-      let count = counts (length (messages s))
-      (ap (λ (t : List Message). length t + length rest) is ∙ sym (length-append told rest)
-      ∙ ap length part ∙ turns_many m.does before done) in
+  claim_of : (at : End) (w : World) (ran done todo gives : List (List ℕ)) (s : Story)
+      → w.card.ran ≡ before ++ ran → done ++ todo ≡ commands
+      → messages s ++ replies gives ≡ Turns done
+      → (s.now.progress ≡ Begun
+      → IsBegun s.now (replies gives ++ turns m.does (before ++ done) todo))
+      → ((n : ℕ) → n + length (replies gives) ≡ 2 * length done → Counts at w ran n) → Claim at w s
+  claim_of at w ran done todo gives s ran_is all told begun counts =
+      let later : List Message = turns m.does (before ++ done) todo in
+      let count = counts (length (messages s)) (sym (length-append (messages s) (replies gives))
+      ∙ ap length told ∙ turns_many m.does before done) in
       record {
-        rest = rest ++ more;
-        in_order = ap (λ t. t ++ (rest ++ more)) is ∙ sym (append_assoc told rest more)
-            ∙ ap (λ t. t ++ more) part ∙ sym (turns_append m.does before done todo)
-            ∙ ap (turns m.does before) all;
+        rest = replies gives ++ later;
+        in_order = sym (append_assoc (messages s) (replies gives) later)
+            ∙ ap (λ ts. ts ++ later) told ∙ sym (turns_append m.does before done todo)
+            ∙ ap Turns all;
         begun = begun;
         answered = count.0;
         few = count.1;
@@ -191,576 +368,305 @@ module _ (m : Meaning) (before commands : List (List ℕ)) where
         told = count.4;
       }
 
-  is_begun : (from : End) (bytes more : List ℕ) (later given : List Message) (s : Story)
-      → Newest s given from bytes Begun → IsBegun s.now ((from, bytes ++ more) ∷ later)
-  is_begun from bytes more later given s h = (
-    more,
-    later,
-    ap (λ b. (from, b ++ more) ∷ later) (sym h.all)
-        ∙ ap (λ (t : Story). (t.now.from, t.now.bytes ++ more) ∷ later) (sym h.is),
-  )
+  -- the next message begins with the bytes so far
+  upcoming : (k : Kept) (s : Spot) → (bytes : List ℕ) × (later : List Message)
+      × (replies (responds k s) ++ turns m.does (before ++ k.done)
+      (sending m before commands k s ++ k.todo) ≡ (turn_in s, so_far s ++ bytes) ∷ later)
+  upcoming k (Opens rest asks) = (_, _, refl)
+  upcoming k (Behind asks collected rest answering) = (_, _, refl)
+  upcoming k (Taken collected b bytes) = (_, _, refl)
+  upcoming k _ = (_, _, refl)
 
-  -- a world with these answers, where the card has carried out these commands
-  abbrev Of : World → (done answers : List (List ℕ)) → Type 0
-  Of w done answers = (w.card.ran ≡ before ++ done) × (w.answers ≡ answers)
+  has_begun : (k : Kept) (s : Spot) (within : Bool) (g : Gathered)
+      → Newest within (turn_in s) (so_far s) g → g.progress ≡ Begun
+      → IsBegun g (replies (responds k s) ++ turns m.does (before ++ k.done)
+      (sending m before commands k s ++ k.todo))
+  has_begun k s true g h begun =
+      let next = upcoming k s in (next.0, next.1, rw (h.1, h.2) next.2)
+  has_begun k s false g h begun = absurd (h.0 begun)
 
-  -- no response is in progress
-  rests : (at : End) (w : World) {done todo answers sends : List (List ℕ)} → Of w done answers
-      → Late at w IsBefore → Up done todo answers sends [] → (n : ℕ)
-      → n + 0 ≡ 2 * length done → Counts at w done n
-  rests at w of late up n is =
+  few_replies : (k : Kept) (s : Spot) → (length (responds k s) ≤ 1)
+      × (length (replies (responds k s)) ≡ length (responds k s))
+  few_replies k (Opens rest asks) = (omega arith, refl)
+  few_replies k _ = (omega arith, refl)
+
+  -- `ran` are fewer if the card has not received the last field of a command that was heard
+  claim_at : (at : End) (w : World) (k : Kept) (s : Spot) (ran : List (List ℕ)) (r : Reading)
+      (t : Story) → w.card.ran ≡ before ++ ran → w.answers ≡ k.answers
+      → (at ≡ Card → length ran ≡ length k.done)
+      → AddsUp m before commands k.done k.todo k.answers (sending m before commands k s)
+      (responds k s) → At k s r t
+      → ((n : ℕ) → n ≡ 2 * length w.answers + length (responds k s) → at ≡ Terminal
+      → (cause : Cause) → w.terminal.phase ≡ GivenUp cause
+      → IsGiven (outcome_of w.terminal) (length w.answers) n)
+      → Claim at w t
+  claim_at at w k s ran r t ran_is same_answers same_ran up h given =
       let many = many m before commands up in
-      let same = ap length of.1 in (
-        omega (arith, many, same, is),
-        omega (arith, many, same, is),
-        λ card. (omega (arith, is), omega (arith, is)),
-        λ terminal long. omega (arith, many, same, is),
-        λ terminal cause gone. subst (λ o. IsGiven o (length w.answers) n)
-            (sym (late terminal cause gone)) (omega (arith, many, same, is)),
-      )
-
-  -- the card has carried out one command more, whose response was not given
-  waits : (at : End) (w : World) {done todo answers : List (List ℕ)} {resp : List ℕ}
-      → Of w done answers → Late at w IsLast → Up done todo answers [] (resp ∷ []) → (n : ℕ)
-      → n + 1 ≡ 2 * length done → Counts at w done n
-  waits at w of late up n is =
-      let many = many m before commands up in
-      let same = ap length of.1 in (
-        omega (arith, many, same, is),
-        omega (arith, many, same, is),
-        λ card. (omega (arith, is), omega (arith, is)),
-        λ terminal long. omega (arith, many, same, is),
-        λ terminal cause gone. given_last (outcome_of w.terminal) (length w.answers) n
-            (omega (arith, many, same, is)) (late terminal cause gone),
-      )
-
-  abbrev Turns : List (List ℕ) → List Message
-  Turns done = turns m.does before done
-
-  module _ {at : End} {w : World} {done todo answers : List (List ℕ)} {r : Reading} {s : Story}
-      {tn cn : Bool} (of : Of w done answers) where
-    claim_quiet : {sends : List (List ℕ)} → Late at w IsBefore → Up done todo answers sends []
-        → Quiet r s tn cn (Turns done) → Claim at w s
-    claim_quiet {sends} late up h =
-        claim_of at w done done (sends ++ todo) (Turns done) [] s of.0 h.told (append-nil (Turns
-        done)) up.whole
-        (λ begun. absurd (h.idle begun)) (rests at w of late up)
-
-    claim_sending : {collected : List ℕ} (bytes : List ℕ) → Late at w IsBefore
-        → Up done todo answers ((collected ++ bytes) ∷ []) [] → Sending r s tn cn (Turns done)
-        collected
-        → Claim at w s
-    claim_sending {collected} bytes late up h =
-        claim_of at w done done (((collected ++ bytes) ∷ []) ++ todo) (Turns done) [] s of.0
-        (ap messages h.newest.is ∙ append-nil (Turns done)) (append-nil (Turns done)) up.whole
-        (λ begun. is_begun Terminal collected bytes _ (Turns done) s h.newest) (rests at w of late
-        up)
-
-    claim_asked : {resp given : List ℕ} → Late at w IsLast → Up done todo answers [] (given ∷ [])
-        → Asked r s tn cn (Turns done) resp → Claim at w s
-    claim_asked {resp} {given} late up h =
-        let newest = h.newest in
-        claim_of at w done done todo (h.given ++ (Terminal, h.command) ∷ []) ((Card, resp) ∷ []) s
-        of.0 (ap messages newest.is ∙ ap (λ c. h.given ++ (Terminal, c) ∷ []) newest.all)
-        (append_assoc h.given ((Terminal, h.command) ∷ []) ((Card, resp) ∷ []) ∙ h.pairs) up.whole
-        (λ begun. absurd (let whole = sym (ap (λ (t : Story). t.now.progress) newest.is) ∙ begun in
-        cc)) (waits at w of late up)
-
-    claim_answering : {got given : List ℕ} (bytes : List ℕ) → Late at w IsLast
-        → Up done todo answers [] (given ∷ [])
-        → Answering r s tn cn (Turns done) got (got ++ bytes) → Claim at w s
-    claim_answering {got} {given} bytes late up h =
-        let asked : List Message = h.given ++ (Terminal, h.command) ∷ [] in
-        let resp : List ℕ = got ++ bytes in
-        claim_of at w done done todo asked ((Card, resp) ∷ []) s of.0
-        (ap messages h.newest.is ∙ append-nil asked)
-        (append_assoc h.given ((Terminal, h.command) ∷ []) ((Card, resp) ∷ []) ∙ h.pairs) up.whole
-        (λ begun. is_begun Card got bytes _ asked s h.newest) (waits at w of late up)
-
-    claim_replied : {got last given : List ℕ} (rest : List ℕ)
-        → Late at w IsLast
-        → (at ≡ Terminal → w.terminal.phase ≢ GivenUp TooLong → ⊥)
-        → Up done todo answers [] (given ∷ [])
-        → Replied r s tn cn (Turns done) (more rest) got last (got ++ (last ++ rest)) → Claim at w s
-    claim_replied {got} {last} (b ∷ rest) late unheard up h =
-        claim_answering (b ∷ rest) late up
-        (more_follows r s ((got ++ last) ++ (b ∷ rest)) (sym (append_assoc got last (b ∷ rest))) h)
-    claim_replied {got} {last} [] late unheard up h =
-        let many = many m before commands up in
-        let same = ap length of.1 in
-        let quiet = response_ends r s (ap (λ l. got ++ l) (append-nil last)) h in
-        claim_of at w done done todo (Turns done) [] s of.0 quiet.told (append-nil (Turns done))
-        up.whole
-        (λ begun. absurd (quiet.idle begun))
-        (λ n is. (
-          omega (arith, many, same, is),
-          omega (arith, many, same, is),
-          λ card. (omega (arith, is), omega (arith, is)),
-          λ terminal long. absurd (unheard terminal long),
-          λ terminal cause gone. given_last (outcome_of w.terminal) (length w.answers) n
-              (omega (arith, many, same, is)) (late terminal cause gone),
-        ))
-
-  claim_command : (within : Bool) {at : End} (w : World) (k : Kept) (r : Reading) (s : Story)
-      (tn cn : Bool) (collected bytes : List ℕ) → Of w k.done k.answers → Late at w IsBefore
-      → Up k.done k.todo k.answers ((collected ++ bytes) ∷ []) []
-      → InCommand within r s tn cn (turns m.does before k.done) collected → Claim at w s
-  claim_command false w k r s tn cn collected bytes of late up h = claim_quiet of late up h.0
-  claim_command true w k r s tn cn collected bytes of late up h =
-      claim_sending of bytes late up h
-
-  claim_passing : {w : World} {done todo answers : List (List ℕ)} {r : Reading} {s : Story}
-      {number due : Bool} {collected field : List ℕ} (rest : List ℕ) {again : Bool}
-      → Of w done answers → Late Terminal w (λ o. o ≡ outcome_with true rest [])
-      → Up done todo answers ((collected ++ (field ++ rest)) ∷ []) []
-      → Passing r s number due (turns m.does before done) (more rest) collected field again
-      → Claim Terminal w s
-  claim_passing {done = done} {todo = todo} {answers = answers} {collected = collected}
-      {field = field} (b ∷ rest) of late up h =
-      claim_sending of (b ∷ rest) late
-      (subst (λ c. Up done todo answers (c ∷ []) []) (sym (append_assoc collected field (b ∷
-      rest))) up)
-      (taken_part _ _ h)
-  claim_passing {w} {done} {todo} {answers} {r} {s} {number} {due} {collected} {field} [] of late
-      up h =
-      let c : List ℕ = collected ++ field in
-      let now : List (List ℕ) = done ++ c ∷ [] in
-      let many = many m before commands up in
-      let same = ap length of.1 in
-      let one = length-append done (c ∷ []) in
-      claim_of Terminal w done now todo (turns m.does before done ++ (Terminal, c) ∷ [])
-      ((Card, m.does (before ++ now)) ∷ []) s of.0 (ap messages h.newest)
-      (append_assoc (turns m.does before done) ((Terminal, c) ∷ [])
-      ((Card, m.does (before ++ now)) ∷ [])
-      ∙ sym (turns_last m.does before done c))
-      (append_assoc done (c ∷ []) todo
-      ∙ ap (λ f. done ++ (collected ++ f) ∷ todo) (sym (append-nil field)) ∙ up.whole)
-      (λ begun. absurd (let whole = sym (ap (λ (t : Story). t.now.progress) h.newest) ∙ begun in
-      cc))
-      (λ n is. (
-        omega (arith, many, same, one, is),
-        omega (arith, many, same, one, is),
-        λ card. absurd (cc),
-        λ terminal long. omega (arith, many, same, one, is),
-        λ terminal cause gone. given_last (outcome_of w.terminal) (length w.answers) n
-            (omega (arith, many, same, one, is)) (after_last Terminal w [] late terminal cause
-            gone),
+      let same = ap length same_answers in
+      let few = few_replies k s in
+      claim_of at w ran k.done (sending m before commands k s ++ k.todo) (responds k s) t ran_is
+      up.whole h.told (has_begun k s r.within t.now h.newest) (λ n is. (
+        omega (arith, many, same, is, few),
+        omega (arith, many, same, is, few),
+        (λ card. let ran_same = same_ran card in (
+          omega (arith, ran_same, is, few),
+          omega (arith, ran_same, is, few),
+        )),
+        (λ terminal long. omega (arith, many, same, is, few)),
+        given n (omega (arith, many, same, is, few)),
       ))
 
-  -- ---- places
+  -- a response has ended
+  claim_ended : (at : End) (w : World) (done todo : List (List ℕ)) (t : Story)
+      → w.card.ran ≡ before ++ done → done ++ todo ≡ commands → messages t ++ [] ≡ Turns done
+      → t.now.progress ≢ Begun → length w.answers ≤ length done
+      → length done ≤ length w.answers + 1
+      → (at ≡ Terminal → w.terminal.phase ≢ GivenUp TooLong → length done ≤ length w.answers)
+      → ((n : ℕ) → n ≡ 2 * length done → at ≡ Terminal → (cause : Cause)
+      → w.terminal.phase ≡ GivenUp cause → IsGiven (outcome_of w.terminal) (length w.answers) n)
+      → Claim at w t
+  claim_ended at w done todo t ran_is all told idle least most heard given =
+      claim_of at w done done todo [] t ran_is all told (λ begun. absurd (idle begun)) (λ n is. (
+        omega (arith, is, least),
+        omega (arith, is, most),
+        (λ card. (omega (arith, is), omega (arith, is))),
+        (λ terminal long. let few = heard terminal long in omega (arith, is, few)),
+        given n (omega (arith, is)),
+      ))
 
-  abbrev pub D : Kept → List Message
-  D k = turns m.does before k.done
+  -- the terminal's field was heard, and the card may not have received it
+  claim_sent : (w : World) (k : Kept) (collected rest : List ℕ) (answering : Bool) (r : Reading)
+      (t : Story) → w.card.ran ≡ before ++ k.done → w.answers ≡ k.answers
+      → (Late Terminal w (outcome_with true rest []))
+      → Holds m before commands k (Behind false collected rest answering)
+      → New Terminal (other k.number) k.due [] (Turns k.done) collected k.field (more rest) r t
+      → Claim Terminal w t
+  claim_sent w k collected (b ∷ bytes) answering r t ran same late holds h =
+      let s : Spot = Behind false collected (b ∷ bytes) answering in
+      claim_at Terminal w (heard m before k s).0 (heard m before k s).1 k.done r t ran same
+      (λ card. absurd (cc)) (heard_holds m before commands k s holds).0 (takes_at k collected r t h)
+      (λ n is terminal cause gone. subst (λ o. IsGiven o (length w.answers) n)
+      (sym (late terminal cause gone)) (omega (arith, is)))
+  claim_sent w k collected [] answering r t ran same late holds h =
+      let s : Spot = Behind false collected [] answering in
+      let c : List ℕ = collected ++ k.field in
+      let done : List (List ℕ) = k.done ++ c ∷ [] in
+      let next : Spot = (heard m before k s).1 in
+      let now = runs_at k collected r t h in
+      let up = (heard_holds m before commands k s holds).0 in
+      let was = many m before commands holds.0 in
+      let is_now = many m before commands up in
+      let one = length-append k.done (c ∷ []) in
+      claim_at Terminal w (runs m before k done) next k.done r t ran same (λ card. absurd (cc)) up
+      (starts_by (λ s. At (runs m before k done) s r t) (drop k.ifsd (m.does (before ++ done)))
+      (m.asks (before ++ done)).extensions (m.asks (before ++ done)).size (λ n size. now)
+      (λ size. now) now)
+      (λ n is terminal cause gone. subst (λ o. IsGiven o (length w.answers) n)
+      (sym (late terminal cause gone)) (omega (arith, is, was, is_now, one)))
 
-  -- after the terminal's block, and before the card's reply
-  abbrev pub Mid : End → Kept → Spot → Reading → Story → Type 0
-  Mid at k (Opens rest asks) r s = Quiet r s k.number k.due (D k)
-  Mid Card k (Behind asks collected rest answering) r s =
-      (within : Bool) × InCommand within r s k.number k.due (D k) collected
-  Mid Terminal k (Behind asks collected rest answering) r s =
-      (again : Bool) × Passing r s k.number k.due (D k) (more rest) collected k.field again
-  Mid at k (Taken collected b bytes) r s = Sending r s (other k.number) k.due (D k) collected
-  Mid at k (Waits rest n size granted) r s = Asked r s (other k.number) k.due (D k) (k.last ++ rest)
-  Mid at k (Grows rest size granted) r s = Asked r s (other k.number) k.due (D k) (k.last ++ rest)
-  Mid at k (Between got b bytes) r s =
-      Answering r s k.number k.due (D k) got (got ++ (b ∷ bytes))
-  Mid Card k (Sent first got rest) r s =
-      Replied r s (cond first (other k.number) k.number) (other k.due) (D k) (more rest) got k.last
-      (got ++ (k.last ++ rest))
-  Mid Terminal k (Sent true [] rest) r s =
-      Asked r s (other k.number) k.due (D k) (k.last ++ rest)
-  Mid Terminal k (Sent true (b ∷ got) rest) r s = ⊥
-  Mid Terminal k (Sent false got rest) r s =
-      Answering r s k.number k.due (D k) got (got ++ (k.last ++ rest))
+  -- the card's field was heard, and the terminal may not have received it
+  replied : (k : Kept) (got : List ℕ) {own peers : Bool} (r : Reading) (t : Story)
+      → New Card own peers ((Card, got ++ (k.last ++ [])) ∷ []) (Turns k.done) got k.last false r t
+      → (messages t ++ [] ≡ Turns k.done) × Newest r.within Terminal [] t.now
+  replied k got r t h =
+      let ends = it_ends r t h in (
+        append-nil (messages t) ∙ ends.0
+            ∙ ap (λ l. t.given ++ (Card, got ++ l) ∷ []) (sym (append-nil k.last)) ∙ h.told,
+        ends.1,
+      )
 
-  -- between two exchanges
-  abbrev pub Inv : End → Kept → Spot → Reading → Story → Type 0
-  Inv at k (Opens rest asks) r s = Mid at k (Opens rest asks) r s
-  Inv Terminal k (Behind false collected rest answering) r s =
-      ((within : Bool) × InCommand within r s k.number k.due (D k) collected)
-      ⊎ Passing r s k.number k.due (D k) (more rest) collected k.field true
-  Inv Terminal k (Behind true collected rest answering) r s =
-      Mid Terminal k (Behind true collected rest answering) r s
-  Inv Card k (Behind asks collected rest answering) r s =
-      Mid Card k (Behind asks collected rest answering) r s
-  Inv at k s r t = Mid at k s r t
+  replies_more : (k : Kept) (got : List ℕ) (b : ℕ) (bytes : List ℕ) {own peers : Bool} (r : Reading)
+      (t : Story) → New Card own peers ((Card, got ++ (k.last ++ (b ∷ bytes))) ∷ []) (Turns k.done)
+      got k.last true r t
+      → Level peers own Card ((Card, (got ++ k.last) ++ (b ∷ bytes)) ∷ []) (Turns k.done)
+      (got ++ k.last) r t
+  replies_more k got b bytes r t h =
+      let follows = more_follows r t h in
+      record {
+        terminal_next = h.peers_next;
+        card_next = h.own_next;
+        turn_is = h.turn;
+        told = ap (λ resp. messages t ++ (Card, resp) ∷ []) (append_assoc got k.last (b ∷ bytes))
+            ∙ follows.0;
+        newest = follows.1;
+      }
 
-  -- after the card's reply has arrived
-  abbrev pub Post : End → Kept → Spot → Reading → Story → Type 0
-  Post at k (Opens rest asks) r s = Mid at k (Opens rest asks) r s
-  Post Terminal k (Behind asks collected rest answering) r s =
-      Passing r s k.number k.due (D k) (more rest) collected k.field true
-  Post Card k (Behind asks collected rest answering) r s =
-      Mid Card k (Behind asks collected rest answering) r s
-  Post at k (Sent first got rest) r s =
-      Replied r s (cond first (other k.number) k.number) (other k.due) (D k) (more rest) got k.last
-      (got ++ (k.last ++ rest))
-  Post at k s r t = Mid at k s r t
+  idle_in : (within : Bool) (g : Gathered) → within ≡ false → Newest within Terminal [] g
+      → g.progress ≢ Begun
+  idle_in true g is h = absurd (cc)
+  idle_in false g is h = h.0
 
-  abbrev pub TapAt : End → Place → Reading → Story → Type 0
-  TapAt at (Going k s why tries extensions) r t = Inv at k s r t
-  TapAt at (Given_up w cause) r t = Claim at (with_phase (GivenUp cause) w) t
-  TapAt at (Finished w) r t = Claim at (with_phase Over w) t
+  claim_replied : (at : End) (w : World) (k : Kept) (first : Bool) (got rest : List ℕ) (r : Reading)
+      (t : Story) → w.card.ran ≡ before ++ k.done → w.answers ≡ k.answers
+      → Late at w (outcome_with true [] got)
+      → (at ≡ Terminal → w.terminal.phase ≢ GivenUp TooLong → ⊥)
+      → AddsUp m before commands k.done k.todo k.answers [] ((got ++ (k.last ++ rest)) ∷ [])
+      → Ahead k (Sent first got rest) r t → Claim at w t
+  claim_replied at w k first got (b ∷ bytes) r t ran same late unheard up h =
+      claim_at at w (record (numbered first k) { due = other k.due })
+      (Between (got ++ k.last) b bytes) k.done r t ran same (λ card. refl)
+      (subst (λ resp. AddsUp m before commands k.done k.todo k.answers [] (resp ∷ []))
+      (sym (append_assoc got k.last (b ∷ bytes))) up) (replies_more k got b bytes r t h)
+      (λ n is terminal cause gone. subst (λ o. IsGiven o (length w.answers) n)
+      (sym (late terminal cause gone)) (given_after got (length w.answers) n (omega (arith, is))))
+  claim_replied at w k first got [] r t ran same late unheard up h =
+      let now = replied k got r t h in
+      let many = many m before commands up in
+      let answers = ap length same in
+      claim_ended at w k.done k.todo t ran up.whole now.0 (idle_in r.within t.now h.within now.1)
+      (omega (arith, many, answers)) (omega (arith, many, answers))
+      (λ terminal long. absurd (unheard terminal long))
+      (λ n is terminal cause gone. subst (λ o. IsGiven o (length w.answers) n)
+      (sym (late terminal cause gone))
+      (given_after got (length w.answers) n (omega (arith, is, many, answers))))
 
-  claim_mid : (at : End) (w : World) (k : Kept) (s : Spot) (r : Reading) (t : Story)
-      → Of w k.done k.answers
-      → Late at w (λ o. o ≡ outcome_with (terminal_in s).2 (terminal_in s).0 (terminal_in s).1)
-      → Holds m before commands k s → Mid at k s r t → Claim at w t
-  claim_mid at w k (Opens rest asks) r t of late h mid = claim_quiet of late h.0 mid
-  claim_mid Card w k (Behind asks collected rest answering) r t of late h mid =
-      claim_command mid.0 w k r t k.number k.due collected (k.field ++ rest) of
-      (λ card cause gone. absurd (cc)) h.0 mid.1
-  claim_mid Terminal w k (Behind asks collected rest answering) r t of late h mid =
-      claim_passing rest of late h.0 mid.1
-  claim_mid at w k (Taken collected b bytes) r t of late h mid =
-      claim_sending of (b ∷ bytes) late h.0 mid
-  claim_mid at w k (Waits rest n size granted) r t of late h mid =
-      claim_asked of (after_last at w [] late) h.0 mid
-  claim_mid at w k (Grows rest size granted) r t of late h mid =
-      claim_asked of (after_last at w [] late) h.0 mid
-  claim_mid at w k (Between got b bytes) r t of late h mid =
-      claim_answering of (b ∷ bytes) (after_last at w got late) h.0 mid
-  claim_mid Card w k (Sent first got rest) r t of late h mid =
-      claim_replied of rest (after_last Card w got late) (λ card long. absurd (cc)) h.0 mid
-  claim_mid Terminal w k (Sent true [] rest) r t of late h mid =
-      claim_asked of (after_last Terminal w [] late) h.0 mid
-  claim_mid Terminal w k (Sent true (b ∷ got) rest) r t of late h mid = absurd mid
-  claim_mid Terminal w k (Sent false got rest) r t of late h mid =
-      claim_answering of (k.last ++ rest) (after_last Terminal w got late) h.0 mid
+  given_at : (k : Kept) (s : Spot) (a n : ℕ) → IsReceived s → n ≡ 2 * a + length (responds k s)
+      → IsGiven (outcome_with (terminal_in s).2 (terminal_in s).0 (terminal_in s).1) a n
+  given_at k (Behind asks collected rest answering) a n received is = absurd received
+  given_at k (Between [] b bytes) a n received is = omega (arith, is)
+  given_at k (Sent first [] rest) a n received is = omega (arith, is)
+  given_at k _ a n received is = omega (arith, is)
+
+  claim_mid : (w : World) (k : Kept) (s : Spot) (at : End) (r : Reading) (t : Story)
+      → w.card.ran ≡ before ++ k.done → w.answers ≡ k.answers
+      → Late at w (outcome_with (terminal_in s).2 (terminal_in s).0 (terminal_in s).1)
+      → Holds m before commands k s → Mid k s at r t → Claim at w t
+  claim_mid w k (Behind asks collected rest answering) Terminal r t ran same late holds h =
+      claim_sent w k collected rest answering r t ran same late holds h
+  claim_mid w k (Behind asks collected rest answering) Card r t ran same late holds h =
+      claim_at Card w k (Behind asks collected rest answering) k.done r t ran same (λ card. refl)
+      holds.0 h (λ n is terminal. absurd (cc))
+  claim_mid w k (Sent first got rest) Card r t ran same late holds h =
+      claim_replied Card w k first got rest r t ran same (λ terminal. absurd (cc))
+      (λ terminal. absurd (cc)) holds.0 h
+  claim_mid w k s at r t ran same late holds h =
+      claim_at at w k s k.done r t ran same (λ card. refl) holds.0 h
+      (λ n is terminal cause gone. subst (λ o. IsGiven o (length w.answers) n)
+      (sym (late terminal cause gone)) (given_at k s (length w.answers) n tt is))
 
   -- without a fault
-  claim_inv : (at : End) (w : World) (k : Kept) (s : Spot) (r : Reading) (t : Story)
-      → Of w k.done k.answers → ((cause : Cause) → w.terminal.phase ≢ GivenUp cause)
-      → Holds m before commands k s → Inv at k s r t → Claim at w t
-  claim_inv at w k (Opens rest asks) r t of none h inv =
-      claim_quiet of (λ terminal cause gone. absurd (none cause gone)) h.0 inv
-  claim_inv Terminal w k (Behind false collected rest answering) r t of none h (inl inv) =
-      claim_command inv.0 w k r t k.number k.due collected (k.field ++ rest) of
-      (λ terminal cause gone. absurd (none cause gone)) h.0 inv.1
-  claim_inv Terminal w k (Behind false collected rest answering) r t of none h (inr inv) =
-      claim_passing rest of (λ terminal cause gone. absurd (none cause gone)) h.0 inv
-  claim_inv at w k s r t of none h inv =
-      claim_mid at w k s r t of (λ terminal cause gone. absurd (none cause gone)) h inv
-
-  -- ---- the card takes the terminal's block
-
-  starts_mid : (at : End) (k : Kept) (rest : List ℕ) (n : ℕ) (size : Option ℕ) (r : Reading)
-      (t : Story) → at ≡ Terminal
-      → Asked r t (other k.number) k.due (D k) (k.last ++ rest)
-      → Mid at k (starts rest n size) r t
-  starts_mid Card k rest n size r t is h = absurd (cc)
-  starts_mid Terminal k rest (suc n) size r t is h = h
-  starts_mid Terminal k rest zero (Some size) r t is h = h
-  starts_mid Terminal k rest zero None r t is h = h
-
-  -- the card's reply to a whole command is its first request, or the first field of the response
-  starts_replies : (error : BlockReason) (k : Kept) (rest : List ℕ) (n : ℕ) (size : Option ℕ)
-      (r : Reading) (t : Story) → Asked r t (other k.number) k.due (D k) (k.last ++ rest)
-      → One (Mid Card k (starts rest n size)) r t Card (reply_of m before error k (starts rest n
-      size))
-  starts_replies error k rest (suc n) size r t h =
-      requested (Mid Card k (Waits rest n size false)) t r Card (Wtx k.multiple) h
-  starts_replies error k rest zero (Some size) r t h =
-      requested (Mid Card k (Grows rest size false)) t r Card (Ifs size) h
-  starts_replies error k rest zero None r t h =
-      replies_first (Mid Card k (Sent true [] rest)) r t (more rest) k.last h (λ now told so. so)
-
-  -- `done` and the response after the card has carried out the command
-  carried : (k : Kept) (collected : List ℕ)
-      → let done : List (List ℕ) = k.done ++ (collected ++ k.field) ∷ [] in
-      let now : Kept = runs m before k done in
-      D k ++ (Terminal, collected ++ k.field)
-      ∷ (Card, now.last ++ drop k.ifsd (m.does (before ++ done))) ∷ [] ≡ D now
-  carried k collected =
-      let done : List (List ℕ) = k.done ++ (collected ++ k.field) ∷ [] in
-      ap (λ resp. D k ++ (Terminal, collected ++ k.field) ∷ (Card, resp) ∷ [])
-      (take-append-drop k.ifsd (m.does (before ++ done)))
-      ∙ sym (turns_last m.does before k.done (collected ++ k.field))
-
-  -- at the terminal's connector nothing is heard of that
-  heard_mid : (k : Kept) (s : Spot) (r : Reading) (t : Story) → Mid Terminal k s r t
-      → Mid Terminal (heard m before k s).0 (heard m before k s).1 r t
-  heard_mid k (Behind false collected [] answering) r t h =
-      let done : List (List ℕ) = k.done ++ (collected ++ k.field) ∷ [] in
-      starts_mid Terminal (runs m before k done) (drop k.ifsd (m.does (before ++ done)))
-      (m.asks (before ++ done)).extensions (m.asks (before ++ done)).size r t refl
-      (taken_whole r t h.1 (carried k collected))
-  heard_mid k (Behind false collected (b ∷ bytes) answering) r t h =
-      taken_part r t h.1
-  heard_mid k (Waits rest n size true) r t h = starts_mid Terminal k rest n size r t refl h
-  heard_mid k (Grows rest size true) r t h = h
-  heard_mid k (Between got b bytes) r t h =
-      subst (λ resp. Answering r t k.number k.due (D k) got (got ++ resp))
-      (sym (take-append-drop k.ifsd (b ∷ bytes))) h
-  heard_mid k _ r t h = h
-
-  -- at the card's connector the block and the reply are heard
-  abbrev Last : Kept → Spot → Reading → Story → Type 0
-  Last k s r t = Mid Card (heard m before k s).0 (heard m before k s).1 r t
-
-  abbrev Two : BlockReason → Kept → Spot → Reading → Story → Type 0
-  Two error k s r t =
-      One (Last k s) r t Card (reply_of m before error (heard m before k s).0 (heard m before k
-      s).1)
-
-  hears_both : (e : BlockReason) (k : Kept) (s : Spot) (why : BlockReason) (r : Reading) (t : Story)
-      → Mid Card k s r t → One (Two e k s) r t Terminal (sent_at k s why)
-  hears_both e k (Opens rest asks) why r t h =
-      let s : Spot = Opens rest asks in
-      requested (Two e k s) t r Terminal (Ifs longest) (ifs_granted (Last k s) t r Card longest h)
-  hears_both e k (Behind true collected rest answering) why r t h =
-      let s : Spot = Behind true collected rest answering in
-      command_ready (Two e k s) r t h.0 k.number k.due (D k) collected Terminal k.due why h.1
-      (λ now so. command_ready (Last k s) now t h.0 k.number k.due (D k) collected Card k.number e
-      so
-      (λ later again. (h.0, again)))
-  hears_both e k (Behind false collected [] answering) why r t h =
-      let s : Spot = Behind false collected [] answering in
-      let done : List (List ℕ) = k.done ++ (collected ++ k.field) ∷ [] in
-      sends_field (Two e k s) r t h.0 k.number k.due (D k) false collected k.field h.1
-      (λ now told passing. starts_replies e (runs m before k done)
-      (drop k.ifsd (m.does (before ++ done))) (m.asks (before ++ done)).extensions
-      (m.asks (before ++ done)).size now told (taken_whole now told passing (carried k collected)))
-  hears_both e k (Behind false collected (b ∷ bytes) answering) why r t h =
-      let s : Spot = Behind false collected (b ∷ bytes) answering in
-      sends_field (Two e k s) r t h.0 k.number k.due (D k) true collected k.field h.1
-      (λ now told passing. sending_ready (Last k s) now told Card (other k.number) e
-      (taken_part now told passing) (λ later so. so))
-  hears_both e k (Taken collected b bytes) why r t h =
-      let s : Spot = Taken collected b bytes in
-      sending_ready (Two e k s) r t Terminal k.due why h
-      (λ now so. sending_ready (Last k s) now t Card (other k.number) e so (λ later again. again))
-  hears_both e k (Waits rest n size true) why r t h =
-      time_granted (Two e k (Waits rest n size true)) t r k.multiple
-      (starts_replies e k rest n size r t h)
-  hears_both e k (Waits rest n size false) why r t h =
-      let s : Spot = Waits rest n size false in
-      asked_ready (Two e k s) r t Terminal k.due why h
-      (λ now so. requested (Last k s) t now Card (Wtx k.multiple) so)
-  hears_both e k (Grows rest size true) why r t h =
-      let s : Spot = Grows rest size true in
-      ifs_granted (Two e k s) t r Terminal size
-      (replies_first (Last k s) r t (more rest) k.last h (λ now told so. so))
-  hears_both e k (Grows rest size false) why r t h =
-      let s : Spot = Grows rest size false in
-      asked_ready (Two e k s) r t Terminal k.due why h
-      (λ now so. requested (Last k s) t now Card (Ifs size) so)
-  hears_both e k (Between got b bytes) why r t h =
-      let s : Spot = Between got b bytes in
-      answering_ready (Two e k s) r t Terminal k.due why h
-      (λ now so. replies_next (Last k s) now t (more (drop k.ifsd (b ∷ bytes)))
-      (take k.ifsd (b ∷ bytes))
-      (subst (λ resp. Answering now t k.number k.due (D k) got (got ++ resp))
-      (sym (take-append-drop k.ifsd (b ∷ bytes))) so) (λ later told again. again))
-  hears_both e k (Sent first got rest) why r t h =
-      let s : Spot = Sent first got rest in
-      replied_ready (Two e k s) r t Terminal k.due why h
-      (λ now so. replies_again (Last k s) now t k.due so (λ later told again. again))
-
-  -- ---- the terminal's block, at its connector
-
-  sends_one : (k : Kept) (s : Spot) (why : BlockReason) (r : Reading) (t : Story)
-      → Inv Terminal k s r t → One (Mid Terminal k s) r t Terminal (sent_at k s why)
-  sends_one k (Opens rest asks) why r t h =
-      requested (Mid Terminal k (Opens rest asks)) t r Terminal (Ifs longest) h
-  sends_one k (Behind false collected rest answering) why r t (inl h) =
-      sends_field (Mid Terminal k (Behind false collected rest answering)) r t h.0 k.number k.due
-      (D k) (more rest) collected k.field h.1 (λ now told passing. (false, passing))
-  sends_one k (Behind false collected rest answering) why r t (inr h) =
-      sends_again (Mid Terminal k (Behind false collected rest answering)) r t (more rest) collected
-      k.field k.field h (λ now told passing. (false, passing))
-  sends_one k (Behind true collected rest answering) why r t h =
-      passing_ready (Mid Terminal k (Behind true collected rest answering)) r t Terminal k.due why
-      h.1 (λ now again so. (again, so))
-  sends_one k (Taken collected b bytes) why r t h =
-      sending_ready (Mid Terminal k (Taken collected b bytes)) r t Terminal k.due why h
-      (λ now so. so)
-  sends_one k (Waits rest n size true) why r t h =
-      time_granted (Mid Terminal k (Waits rest n size true)) t r k.multiple h
-  sends_one k (Waits rest n size false) why r t h =
-      asked_ready (Mid Terminal k (Waits rest n size false)) r t Terminal k.due why h (λ now so. so)
-  sends_one k (Grows rest size true) why r t h =
-      ifs_granted (Mid Terminal k (Grows rest size true)) t r Terminal size h
-  sends_one k (Grows rest size false) why r t h =
-      asked_ready (Mid Terminal k (Grows rest size false)) r t Terminal k.due why h (λ now so. so)
-  sends_one k (Between got b bytes) why r t h =
-      answering_ready (Mid Terminal k (Between got b bytes)) r t Terminal k.due why h (λ now so. so)
-  sends_one k (Sent true [] rest) why r t h =
-      asked_ready (Mid Terminal k (Sent true [] rest)) r t Terminal k.due why h (λ now so. so)
-  sends_one k (Sent true (b ∷ got) rest) why r t h = absurd h
-  sends_one k (Sent false got rest) why r t h =
-      answering_ready (Mid Terminal k (Sent false got rest)) r t Terminal k.due why h (λ now so. so)
-
-  -- the card's reply, at the terminal's connector
-  reply_one : (e : BlockReason) (k : Kept) (s : Spot) (r : Reading) (t : Story) → IsHeard k s
-      → Mid Terminal k s r t → One (Post Terminal k s) r t Card (reply_of m before e k s)
-  reply_one e k (Opens rest asks) r t a h =
-      ifs_granted (Post Terminal k (Opens rest asks)) t r Card longest h
-  reply_one e k (Behind asks collected rest answering) r t a h =
-      passing_asked (Post Terminal k (Behind asks collected rest answering)) r t e h.1 (λ now so.
-      so)
-  reply_one e k (Taken collected b bytes) r t a h =
-      sending_ready (Post Terminal k (Taken collected b bytes)) r t Card (other k.number) e h
-      (λ now so. so)
-  reply_one e k (Waits rest n size granted) r t a h =
-      requested (Post Terminal k (Waits rest n size granted)) t r Card (Wtx k.multiple) h
-  reply_one e k (Grows rest size granted) r t a h =
-      requested (Post Terminal k (Grows rest size granted)) t r Card (Ifs size) h
-  reply_one e k (Between got b bytes) r t a h = absurd a
-  reply_one e k (Sent true [] rest) r t a h =
-      replies_first (Post Terminal k (Sent true [] rest)) r t (more rest) k.last h
-      (λ now told so. so)
-  reply_one e k (Sent true (b ∷ got) rest) r t a h = absurd h
-  reply_one e k (Sent false got rest) r t a h =
-      replies_next (Post Terminal k (Sent false got rest)) r t (more rest) k.last h
-      (λ now told so. so)
-
-  -- the card's reply to a damaged block
-  garble_one : (at : End) (k : Kept) (s : Spot) (r : Reading) (t : Story) → Mid at k s r t
-      → One (Mid at k s) r t Card (garble_at k s)
-  garble_one at k (Opens rest asks) r t h =
-      quiet_ready (Mid at k (Opens rest asks)) r t Card k.number Edc h (λ now so. so)
-  garble_one Card k (Behind asks collected rest answering) r t h =
-      command_ready (Mid Card k (Behind asks collected rest answering)) r t h.0 k.number k.due (D k)
-      collected Card k.number Edc h.1 (λ now so. (h.0, so))
-  garble_one Terminal k (Behind asks collected rest answering) r t h =
-      passing_ready (Mid Terminal k (Behind asks collected rest answering)) r t Card k.number Edc
-      h.1
-      (λ now again so. (again, so))
-  garble_one at k (Taken collected b bytes) r t h =
-      sending_ready (Mid at k (Taken collected b bytes)) r t Card (other k.number) Edc h
-      (λ now so. so)
-  garble_one at k (Waits rest n size granted) r t h =
-      requested (Mid at k (Waits rest n size granted)) t r Card (Wtx k.multiple) h
-  garble_one at k (Grows rest size granted) r t h =
-      requested (Mid at k (Grows rest size granted)) t r Card (Ifs size) h
-  garble_one at k (Between got b bytes) r t h =
-      answering_ready (Mid at k (Between got b bytes)) r t Card k.number Edc h (λ now so. so)
-  garble_one Card k (Sent first got rest) r t h =
-      replied_ready (Mid Card k (Sent first got rest)) r t Card
-      (cond first (other k.number) k.number) Edc h (λ now so. so)
-  garble_one Terminal k (Sent true [] rest) r t h =
-      asked_ready (Mid Terminal k (Sent true [] rest)) r t Card (other k.number) Edc h (λ now so.
-      so)
-  garble_one Terminal k (Sent true (b ∷ got) rest) r t h = absurd h
-  garble_one Terminal k (Sent false got rest) r t h =
-      answering_ready (Mid Terminal k (Sent false got rest)) r t Card k.number Edc h (λ now so. so)
+  claim_inv : (w : World) (k : Kept) (s : Spot) (at : End) (r : Reading) (t : Story)
+      → w.card.ran ≡ before ++ k.done → w.answers ≡ k.answers
+      → ((cause : Cause) → w.terminal.phase ≢ GivenUp cause)
+      → Holds m before commands k s → Inv k s at r t → Claim at w t
+  claim_inv w k (Behind false collected rest answering) Terminal r t ran same none holds (inl h) =
+      claim_at Terminal w k (Behind false collected rest answering) k.done _ t ran same
+      (λ card. refl) holds.0 h.1 (λ n is terminal cause gone. absurd (none cause gone))
+  claim_inv w k (Behind false collected rest answering) Terminal r t ran same none holds (inr h) =
+      claim_sent w k collected rest answering _ t ran same
+      (λ terminal cause gone. absurd (none cause gone)) holds h.0.1
+  claim_inv w k s at r t ran same none holds h =
+      claim_mid w k s at _ t ran same (λ terminal cause gone. absurd (none cause gone)) holds h.1
 
   -- ---- the terminal's turn
 
+  abbrev TapAt : End → Place → Reading → Story → Type 0
+  TapAt at (Going k s why tries extensions) r t = Inv k s at r t
+  TapAt at (Given_up w cause) r t = Claim at (with_phase (GivenUp cause) w) t
+  TapAt at (Finished w) r t = Claim at (with_phase Over w) t
+
   uses_tap : (at : End) (cause : Cause) (n : ℕ) (w : World) (again : ℕ → Place) (r : Reading)
       (t : Story) → Claim at (with_phase (GivenUp cause) w) t
-      → ((i : ℕ) → TapAt at (again i) r t)
-      → TapAt at (uses cause n w again) r t
+      → ((i : ℕ) → TapAt at (again i) r t) → TapAt at (uses cause n w again) r t
   uses_tap at cause zero w again r t claim h = claim
   uses_tap at cause (suc n) w again r t claim h = h n
 
-  -- a command begins, or its first field is cut again
-  quiet_inv : (at : End) (k : Kept) (rest : List ℕ) (answering : Bool) (r : Reading) (t : Story)
-      → Quiet r t k.number k.due (D k) → Inv at k (Behind false [] rest answering) r t
-  quiet_inv Card k rest answering r t h = (false, (h, refl))
-  quiet_inv Terminal k rest answering r t h = inl (false, (h, refl))
+  -- the terminal has a field to send, which was not heard yet
+  behind_inv : (k : Kept) (collected rest : List ℕ) (answering : Bool) (at : End) (r : Reading)
+      (t : Story) → Here (At k (Behind false collected rest answering)) r t
+      → Inv k (Behind false collected rest answering) at r t
+  behind_inv k collected rest answering Card r t h = h
+  behind_inv k collected rest answering Terminal r t h = inl h
 
-  asking_inv : (at : End) (k : Kept) (s : Spot) (r : Reading) (t : Story) → Mid at k s r t
-      → Inv at k (asking s) r t
-  asking_inv Card k (Behind asks collected rest answering) r t h = h
-  asking_inv Terminal k (Behind asks collected rest answering) r t h = h
-  asking_inv at k _ r t h = h
+  asking_inv : (k : Kept) (s : Spot) (at : End) (r : Reading) (t : Story) → Here (Mid k s at) r t
+      → Inv k (asking s) at r t
+  asking_inv k (Behind asks collected rest answering) Card r t h = h
+  asking_inv k (Behind asks collected rest answering) Terminal r t h = h
+  asking_inv k _ at r t h = h
 
   misses_tap : (at : End) (why : BlockReason) (out : Out) (k : Kept) (s : Spot)
       (tries extensions : ℕ) (r : Reading) (t : Story) → Holds m before commands k s
-      → Mid at k s r t → TapAt at (misses m before why out k s tries extensions) r t
+      → Here (Mid k s at) r t → TapAt at (misses m before why out k s tries extensions) r t
   misses_tap at why out k (Opens rest asks) zero extensions r t holds h =
-      quiet_inv at (record k { field = take k.size (k.field ++ rest) })
-      (drop k.size (k.field ++ rest)) false r t h
+      behind_inv (record k { field = take k.size (k.field ++ rest) }) []
+      (drop k.size (k.field ++ rest)) false at r t h
   misses_tap at why out k (Opens rest asks) (suc n) extensions r t holds h = h
   misses_tap at why out k s tries extensions r t holds h =
-      uses_tap at TriesSpent tries _ _ r t (claim_mid at _ k s r t (refl, refl) (λ t c e. refl)
-      holds h)
-      (λ i. asking_inv at k s r t h)
+      uses_tap at TriesSpent tries _ _ r t
+      (claim_mid _ k s at _ t refl refl (λ t c e. refl) holds h.1) (λ i. asking_inv k s at r t h)
 
-  proceeds_tap : (at : End) (k : Kept) (todo : List (List ℕ)) (w : World) (r : Reading)
-      (t : Story) → Quiet r t k.number k.due (D k) → Claim at (with_phase Over (record w {
-        todo =
-            [];
-      })) t
+  proceeds_tap : (at : End) (k : Kept) (todo : List (List ℕ)) (w : World) (r : Reading) (t : Story)
+      → w.card.ran ≡ before ++ k.done → length w.answers ≡ length k.done → k.done ++ todo ≡ commands
+      → r.within ≡ false → Here (Level k.number k.due Terminal [] (Turns k.done) []) r t
       → TapAt at (proceeds k todo w) r t
-  proceeds_tap at k [] w r t h claim = claim
-  proceeds_tap at k (c ∷ cs) w r t h claim =
-      quiet_inv at (record k { todo = cs; field = take k.size c }) (drop k.size c) true r t h
+  proceeds_tap at k [] w r t ran same all within h =
+      claim_ended at (with_phase Over (record w { todo = [] })) k.done [] t ran all h.1.told
+      (idle_in r.within t.now within h.1.newest) (omega (arith, same)) (omega (arith, same))
+      (λ terminal long. omega (arith, same)) (λ n is terminal cause gone. absurd (cc))
+  proceeds_tap at k (c ∷ cs) w r t ran same all within h =
+      behind_inv (record k { todo = cs; field = take k.size c }) [] (drop k.size c) true at r t h
 
   -- a field of the response
   next_tap : (at : End) (v : Bool) (out : Out) (k : Kept) (got rest : List ℕ)
       (tries extensions : ℕ) (r : Reading) (t : Story)
-      → Up k.done k.todo k.answers [] ((got ++ (k.last ++ rest)) ∷ [])
-      → Replied r t k.number (other k.due) (D k) (more rest) got k.last (got ++ (k.last ++ rest))
+      → AddsUp m before commands k.done k.todo k.answers [] ((got ++ (k.last ++ rest)) ∷ [])
+      → Here (Ahead k (Sent false got rest)) r t
       → TapAt at (comes_next m before v out k got rest tries extensions) r t
   next_tap at true out k got rest tries extensions r t up h =
-      claim_replied (refl, refl) rest (after_last at (with_phase (GivenUp TooLong)
-      (world_after m before out k got rest tries extensions)) got (λ t c e. refl)) (λ terminal
-      long. long refl) up
-      h
+      claim_replied at _ k false got rest _ t refl refl (λ t c e. refl)
+      (λ terminal long. long refl) up h.1
   next_tap at false out k got [] tries extensions r t up h =
-      let now : Kept = record k {
-        answers = k.answers ++ (got ++ k.last) ∷ [];
-        due = other k.due;
-      } in
-      let quiet : Quiet r t k.number (other k.due) (D k) =
-      response_ends r t
-      (ap (λ l. got ++ l) (append-nil k.last)) h in
-      let after : Up k.done k.todo now.answers [] [] = record {
-        whole = up.whole;
-        answers_are = append-nil now.answers
-            ∙ ap (λ l. k.answers ++ (got ++ l) ∷ []) (sym (append-nil k.last))
-            ∙ up.answers_are;
-      } in
-      proceeds_tap at now k.todo _ r t quiet
-      (claim_quiet (refl, refl) (λ t c e. absurd (cc)) after quiet)
+      let now = replied k got _ t h.1 in
+      let many = many m before commands up in
+      let one = length-append k.answers ((got ++ k.last) ∷ []) in
+      proceeds_tap at (record k { answers = k.answers ++ (got ++ k.last) ∷ []; due = other k.due })
+      k.todo _ r t refl (omega (arith, many, one)) up.whole h.1.within (
+        h.0,
+        record {
+          terminal_next = h.1.peers_next;
+          card_next = h.1.own_next;
+          turn_is = h.1.turn;
+          told = now.0;
+          newest = now.1;
+        },
+      )
   next_tap at false out k got (b ∷ bytes) tries extensions r t up h =
-      more_follows r t
-      ((got ++ k.last) ++ (b ∷ bytes)) (sym (append_assoc got k.last (b ∷ bytes))) h
+      (h.0, replies_more k got b bytes _ t h.1)
 
   grows_tap : (at : End) (v : Bool) (out : Out) (k : Kept) (rest : List ℕ) (size : ℕ)
       (granted : Bool) (tries extensions : ℕ) (r : Reading) (t : Story)
       → Holds m before commands k (Grows rest size granted)
-      → Mid at k (Grows rest size granted) r t
+      → Here (At k (Grows rest size granted)) r t
       → TapAt at (grows m before v out k rest size granted tries extensions) r t
   grows_tap at true out k rest size granted tries extensions r t holds h =
       uses_tap at ExtensionsSpent extensions _ _ r t
-      (claim_mid at _ k (Grows rest size granted) r t (refl, refl) (λ t c e. refl) holds h) (λ i. h)
+      (claim_mid _ k (Grows rest size granted) at _ t refl refl (λ t c e. refl) holds h.1) (λ i. h)
   grows_tap at false out k rest size granted tries extensions r t holds h =
       misses_tap at Other out k (Grows rest size granted) tries extensions r t holds h
 
   comes_tap : (at : End) (out : Out) (k : Kept) (s : Spot) (tries extensions : ℕ) (r : Reading)
-      (t : Story) → IsHeard k s → Holds m before commands k s → Post at k s r t
+      (t : Story) → IsHeard k s → Holds m before commands k s → Post k s at r t
       → TapAt at (comes m before out k s tries extensions) r t
   comes_tap at out k (Opens rest asks) tries extensions r t a holds h =
-      quiet_inv at (record k { field = take k.size (k.field ++ rest) })
-      (drop k.size (k.field ++ rest)) false r t h
+      behind_inv (record k { field = take k.size (k.field ++ rest) }) []
+      (drop k.size (k.field ++ rest)) false at r t h
   comes_tap Card out k (Behind asks collected rest answering) tries extensions r t a holds h =
       uses_tap Card TriesSpent tries _ _ r t
-      (claim_mid Card _ k (Behind asks collected rest answering) r t (refl, refl) (λ t c e. absurd
-      (cc)) holds h) (λ i. h)
+      (claim_mid _ k (Behind asks collected rest answering) Card _ t refl refl
+      (λ t c e. absurd (cc)) holds h.1) (λ i. h)
   comes_tap Terminal out k (Behind asks collected rest answering) tries extensions r t a holds h =
-      let fits : take k.size k.field ≡ k.field = take_all k.size k.field holds.3 in
-      let none : drop k.size k.field ++ rest ≡ rest =
-      ap (λ f. f ++ rest) (drop_all k.size k.field holds.3) in
+      let none = drop_all k.size k.field holds.3 in
       uses_tap Terminal TriesSpent tries _ _ r t
-      (claim_mid Terminal _ k (Behind asks collected rest answering) r t (refl, refl)
-      (λ t c e. ap (λ b. outcome_with true b []) none) holds (
-        true,
-        h,
-      ))
-      (λ i. inr (subst (λ f. Passing r t k.number k.due (D k) (more (and_rest k rest)) collected f
-      true) (sym fits) (subst (λ b. Passing r t k.number k.due (D k) (more b) collected k.field
-      true)
-      (sym none) h)))
-  comes_tap Card out k (Taken collected b bytes) tries extensions r t a holds h = (true, h)
-  comes_tap Terminal out k (Taken collected b bytes) tries extensions r t a holds h = inl (true, h)
+      (claim_mid _ k (Behind asks collected rest answering) Terminal _ t refl refl
+      (λ t c e. ap (λ b. outcome_with true (b ++ rest) []) none) holds h.0.1)
+      (λ i. rw (take_all k.size k.field holds.3, none) (inr h))
+  comes_tap at out k (Taken collected b bytes) tries extensions r t a holds h =
+      behind_inv (record k { field = take k.size (b ∷ bytes); number = other k.number }) collected
+      (drop k.size (b ∷ bytes)) false at r t h
   comes_tap at out k (Waits rest n size granted) tries extensions r t a holds h =
       uses_tap at ExtensionsSpent extensions _ _ r t
-      (claim_mid at _ k (Waits rest n size granted) r t (refl, refl) (λ t c e. refl) holds h) (λ i.
-      h)
+      (claim_mid _ k (Waits rest n size granted) at _ t refl refl (λ t c e. refl) holds h.1)
+      (λ i. h)
   comes_tap at out k (Grows rest size granted) tries extensions r t a holds h =
       grows_tap at (is_size size) out k rest size granted tries extensions r t holds h
   comes_tap at out k (Between got b bytes) tries extensions r t a holds h = absurd a
@@ -769,122 +675,151 @@ module _ (m : Meaning) (before commands : List (List ℕ)) where
 
   -- ---- an exchange
 
-  mid_card : (k : Kept) (s : Spot) (r : Reading) (t : Story) → Inv Card k s r t
-      → Mid Card k s r t
-  mid_card k (Opens rest asks) r t h = h
-  mid_card k _ r t h = h
+  -- the card's reply, which arrives, or is heard at the card alone
+  answered : (e : BlockReason) (out : Out) (k : Kept) (s : Spot) (tries extensions : ℕ) (at : End)
+      (up : Fate) (r : Reading) (t : Story) → IsHeard k s → Holds m before commands k s
+      → Here (Received k s at) r t
+      → Then (TapAt at (arrived m before out up k s tries extensions)) r t
+      (passes (is_end Card at) Card up (Some (reply_of m before e k s)))
+  answered e out k s tries extensions at up r t a holds h = by at up h where
+    reply : List Passed
+    reply = (Card, reply_of m before e k s) ∷ []
 
-  post_card : (k : Kept) (s : Spot) (r : Reading) (t : Story) → Mid Card k s r t
-      → Post Card k s r t
-  post_card k (Opens rest asks) r t h = h
-  post_card k _ r t h = h
+    -- what was heard at the terminal's connector
+    unheard : (s : Spot) → Here (Received k s Terminal) r t → Here (Mid k s Terminal) r t
+    unheard (Sent first got rest) (missed, inl h) = (missed, h)
+    unheard (Sent first got rest) (missed, inr h) = (missed, h)
+    unheard _ h = h
 
-  arrived_card : (out : Out) (up : Fate) (k : Kept) (s : Spot) (tries extensions : ℕ)
-      (r : Reading) (t : Story) → IsHeard k s → Holds m before commands k s → Mid Card k s r t
-      → TapAt Card (arrived m before out up k s tries extensions) r t
-  arrived_card out Delivers k s tries extensions r t a holds h =
-      comes_tap Card out k s tries extensions r t a holds (post_card k s r t h)
-  arrived_card out Damages k s tries extensions r t a holds h =
-      misses_tap Card Edc out k s tries extensions r t holds h
-  arrived_card out Loses k s tries extensions r t a holds h =
-      misses_tap Card Other out k s tries extensions r t holds h
+    -- what was heard at the card's
+    at_card : (s : Spot) (now : Reading) (told : Story) → Post k s Card now told
+        → Here (Mid k s Card) now told
+    at_card (Opens rest asks) now told h = h
+    at_card _ now told h = h
 
-  -- the card's reply, if it arrives at the terminal
-  arrived_terminal : (error : BlockReason) (out : Out) (up : Fate) (k : Kept) (s : Spot)
-      (tries extensions : ℕ) (r : Reading) (t : Story) → IsHeard k s
-      → Holds m before commands k s → Mid Terminal k s r t
-      → Then (TapAt Terminal (arrived m before out up k s tries extensions)) r t
-      (passes false Card up (Some (reply_of m before error k s)))
-  arrived_terminal error out Delivers k s tries extensions r t a holds h =
-      then_all (Post Terminal k s) (TapAt Terminal (comes m before out k s tries extensions)) r t
-      ((Card, reply_of m before error k s) ∷ [])
-      (λ now told. comes_tap Terminal out k s tries extensions now told a holds)
-      (reply_one error k s r t a h)
-  arrived_terminal error out Damages k s tries extensions r t a holds h =
-      misses_tap Terminal Edc out k s tries extensions r t holds h
-  arrived_terminal error out Loses k s tries extensions r t a holds h =
-      misses_tap Terminal Other out k s tries extensions r t holds h
+    misses_at : (why : BlockReason) → Here (Received k s Card) r t
+        → Then (TapAt Card (misses m before why out k s tries extensions)) r t reply
+    misses_at why h =
+        then_more (Post k s Card) (TapAt Card (misses m before why out k s tries extensions)) reply []
+        (λ now told post. misses_tap Card why out k s tries extensions now told holds (at_card s now
+        told post)) r t (replies_one e k s Card r t a h)
 
-  unread_terminal : (out : Out) (up : Fate) (k : Kept) (s : Spot) (tries extensions : ℕ)
-      (r : Reading) (t : Story) → Holds m before commands k s → Mid Terminal k s r t
-      → Then (TapAt Terminal (misses m before (error_of m before up) out k s tries extensions)) r t
-      (passes false Card up (Some (garble_at k s)))
-  unread_terminal out Delivers k s tries extensions r t holds h =
-      then_all (Mid Terminal k s) (TapAt Terminal (misses m before Other out k s tries extensions))
-      r t ((Card, garble_at k s) ∷ [])
-      (λ now told. misses_tap Terminal Other out k s tries extensions now told holds)
-      (garble_one Terminal k s r t h)
-  unread_terminal out Damages k s tries extensions r t holds h =
-      misses_tap Terminal Edc out k s tries extensions r t holds h
-  unread_terminal out Loses k s tries extensions r t holds h =
-      misses_tap Terminal Other out k s tries extensions r t holds h
+    by : (at : End) (up : Fate) → Here (Received k s at) r t
+        → Then (TapAt at (arrived m before out up k s tries extensions)) r t
+        (passes (is_end Card at) Card up (Some (reply_of m before e k s)))
+    by Card Delivers h =
+        then_more (Post k s Card) (TapAt Card (comes m before out k s tries extensions)) reply []
+        (λ now told. comes_tap Card out k s tries extensions now told a holds) r t
+        (replies_one e k s Card r t a h)
+    by Terminal Delivers h =
+        then_more (Post k s Terminal) (TapAt Terminal (comes m before out k s tries extensions)) reply
+        [] (λ now told. comes_tap Terminal out k s tries extensions now told a holds) r t
+        (replies_one e k s Terminal r t a h)
+    by Card Damages h = misses_at Edc h
+    by Card Loses h = misses_at Other h
+    by Terminal Damages h =
+        misses_tap Terminal Edc out k s tries extensions r t holds (unheard s h)
+    by Terminal Loses h =
+        misses_tap Terminal Other out k s tries extensions r t holds (unheard s h)
 
-  garbled_terminal : (up : Fate) (k : Kept) (s : Spot) (why : BlockReason) (tries extensions : ℕ)
-      (r : Reading) (t : Story) → Holds m before commands k s → Mid Terminal k s r t
-      → Then (TapAt Terminal (garbled m before up k s why tries extensions)) r t
-      (passes false Card up (Some (garble_at k s)))
-  garbled_terminal up k (Opens rest asks) why tries extensions r t holds h =
-      unread_terminal (out_at k (Opens rest asks) why) up k (Opens rest asks) tries extensions r t
-      holds h
-  garbled_terminal up k (Between got b bytes) why tries extensions r t holds h =
-      unread_terminal (out_at k (Between got b bytes) why) up k (Between got b bytes) tries
-      extensions r t holds h
-  garbled_terminal up k (Sent first got rest) why tries extensions r t holds h =
-      unread_terminal (out_at k (Sent first got rest) why) up k (Sent first got rest) tries
-      extensions
-      r t holds h
-  garbled_terminal up k s why tries extensions r t holds h =
-      arrived_terminal Edc (out_at k s why) up k s tries extensions r t tt holds h
+  -- the terminal ignores the reply to a damaged block
+  unread : (out : Out) (k : Kept) (s : Spot) (tries extensions : ℕ) (at : End) (up : Fate)
+      (r : Reading) (t : Story) → Holds m before commands k s → Here (Mid k s at) r t
+      → Then (TapAt at (misses m before (error_of m before up) out k s tries extensions)) r t
+      (passes (is_end Card at) Card up (Some (garble_at k s)))
+  unread out k s tries extensions at up r t holds h = by (is_end Card at) up heard_too where
+    P : Fate → Reading → Story → Type 0
+    P up = TapAt at (misses m before (error_of m before up) out k s tries extensions)
+
+    heard_too : (up : Fate) → P up r t × One (P up) r t Card (garble_at k s)
+    heard_too up = (
+      misses_tap at (error_of m before up) out k s tries extensions r t holds h,
+      then_more (Here (Mid k s at)) (P up) ((Card, garble_at k s) ∷ []) []
+          (λ now told. misses_tap at (error_of m before up) out k s tries extensions now told holds)
+          r t (plain (Mid k s at) r t Card (garble_at k s) (garble_plain k s) h),
+    )
+
+    by : (own : Bool) (up : Fate) → ((up : Fate) → P up r t × One (P up) r t Card (garble_at k s))
+        → Then (P up) r t (passes own Card up (Some (garble_at k s)))
+    by true up h = (h up).1
+    by false Delivers h = (h Delivers).1
+    by false Damages h = (h Damages).0
+    by false Loses h = (h Loses).0
+
+  garbled_tap : (k : Kept) (s : Spot) (why : BlockReason) (tries extensions : ℕ) (at : End)
+      (up : Fate) (r : Reading) (t : Story) → Holds m before commands k s → Here (Mid k s at) r t
+      → Then (TapAt at (garbled m before up k s why tries extensions)) r t
+      (passes (is_end Card at) Card up (Some (garble_at k s)))
+  garbled_tap k (Opens rest asks) why tries extensions at up r t holds h =
+      unread (out_of why asks) k (Opens rest asks) tries extensions at up r t holds h
+  garbled_tap k (Between got b bytes) why tries extensions at up r t holds h =
+      unread (Asks why) k (Between got b bytes) tries extensions at up r t holds h
+  garbled_tap k (Sent first got rest) why tries extensions at up r t holds h =
+      unread (Asks why) k (Sent first got rest) tries extensions at up r t holds h
+  garbled_tap k s why tries extensions at up r t holds h =
+      answered Edc (out_at k s why) k s tries extensions at up r t tt holds h
 
   abbrev After : End → Fate → Fate → Place → Reading → Story → Type 0
   After at down up p r t = TapAt at (step m before down up p) r t
 
+  -- what holds after the blocks of an exchange, the terminal's first
+  taken : (k : Kept) (s : Spot) (why : BlockReason) (tries extensions : ℕ) (at : End) (up : Fate)
+      (r : Reading) (t : Story) → Holds m before commands k s → Inv k s at r t
+      → Then (After at Delivers up (Going k s why tries extensions)) r t
+      ((Terminal, sent_at k s why) ∷ passes (is_end Card at) Card up
+      (card_takes m (sent_at k s why) (card_at m before k s)).block)
+  taken k s why tries extensions at up r t holds h =
+      let reply = replies_it m before k s why in
+      subst (λ b. Then (After at Delivers up (Going k s why tries extensions)) r t
+      ((Terminal, sent_at k s why) ∷ passes (is_end Card at) Card up b)) (sym reply.1)
+      (then_more (Here (Passing k s at)) (After at Delivers up (Going k s why tries extensions))
+      ((Terminal, sent_at k s why) ∷ []) (passes (is_end Card at) Card up
+      (Some (reply_of m before reply.0 (heard m before k s).0 (heard m before k s).1)))
+      (λ now told passing. answered reply.0 (out_at k s why) (heard m before k s).0
+      (heard m before k s).1 tries extensions at up now told (is_heard m before k s)
+      (heard_holds m before commands k s holds) (passing.0, takes k s at _ told passing.1)) r t
+      (sends_one k s at why r t h))
+
+  -- the terminal's block was heard, and has not arrived
+  gone : (k : Kept) (s : Spot) (r : Reading) (t : Story) → Here (Passing k s Terminal) r t
+      → Here (Mid k s Terminal) r t
+  gone k (Behind false collected rest answering) r t h = h
+  gone k _ r t h = h
+
+  stayed : (k : Kept) (s : Spot) (r : Reading) (t : Story) → Inv k s Card r t
+      → Here (Mid k s Card) r t
+  stayed k (Behind false collected rest answering) r t h = h
+  stayed k _ r t h = h
+
   going : (at : End) (down up : Fate) (k : Kept) (s : Spot) (why : BlockReason)
       (tries extensions : ℕ) (r : Reading) (t : Story) → Holds m before commands k s
-      → Inv at k s r t
+      → Inv k s at r t
       → Then (After at down up (Going k s why tries extensions)) r t
       (passes_both at m (record { down = down; up = up }) (card_at m before k s)
       (Some (sent_at k s why)))
   going Card Delivers up k s why tries extensions r t holds h =
-      let reply = replies_it m before k s why in
-      subst (λ b. Then (After Card Delivers up (Going k s why tries extensions)) r t
-      ((Terminal, sent_at k s why) ∷ passes true Card up b)) (sym reply.1)
-      (then_all (Last k s) (After Card Delivers up (Going k s why tries extensions)) r t
-      ((Terminal, sent_at k s why)
-      ∷ (Card, reply_of m before reply.0 (heard m before k s).0 (heard m before k s).1) ∷ [])
-      (λ now told. arrived_card (out_at k s why) up (heard m before k s).0 (heard m before k s).1
-      tries extensions now told (is_heard m before k s) (heard_holds m before commands k s holds))
-      (hears_both reply.0 k s why r t (mid_card k s r t h)))
+      taken k s why tries extensions Card up r t holds h
+  going Terminal Delivers up k s why tries extensions r t holds h =
+      taken k s why tries extensions Terminal up r t holds h
   going Card Damages up k s why tries extensions r t holds h =
       subst (λ b. Then (After Card Damages up (Going k s why tries extensions)) r t
       (passes true Card up b)) (sym (garbles_it m before k s))
-      (then_all (Mid Card k s) (After Card Damages up (Going k s why tries extensions)) r t
-      ((Card, garble_at k s) ∷ [])
-      (λ now told mid. garbled_by m before (λ p. TapAt Card p now told) up k s why tries extensions
-      (λ error. misses_tap Card error (out_at k s why) k s tries extensions now told holds mid)
-      (λ a. comes_tap Card (out_at k s why) k s tries extensions now told a holds
-      (post_card k s now told mid)))
-      (garble_one Card k s r t (mid_card k s r t h)))
-  going Card Loses up k s why tries extensions r t holds h =
-      misses_tap Card Other (out_at k s why) k s tries extensions r t holds (mid_card k s r t h)
-  going Terminal Delivers up k s why tries extensions r t holds h =
-      let reply = replies_it m before k s why in
-      let sent = sends_one k s why r t h in
-      subst (λ b. Then (After Terminal Delivers up (Going k s why tries extensions)) r t
-      ((Terminal, sent_at k s why) ∷ passes false Card up b)) (sym reply.1) (
-        sent.0,
-        arrived_terminal reply.0 (out_at k s why) up (heard m before k s).0
-            (heard m before k s).1 tries extensions _ _ (is_heard m before k s)
-            (heard_holds m before commands k s holds) (heard_mid k s _ _ sent.1),
-      )
+      (garbled_tap k s why tries extensions Card up r t holds (stayed k s r t h))
   going Terminal Damages up k s why tries extensions r t holds h =
-      let sent = sends_one k s why r t h in
       subst (λ b. Then (After Terminal Damages up (Going k s why tries extensions)) r t
       ((Terminal, sent_at k s why) ∷ passes false Card up b)) (sym (garbles_it m before k s))
-      (sent.0, garbled_terminal up k s why tries extensions _ _ holds sent.1)
+      (then_more (Here (Passing k s Terminal))
+      (After Terminal Damages up (Going k s why tries extensions)) ((Terminal, sent_at k s why) ∷ [])
+      (passes false Card up (Some (garble_at k s)))
+      (λ now told passing. garbled_tap k s why tries extensions Terminal up now told holds
+      (gone k s now told passing)) r t (sends_one k s Terminal why r t h))
+  going Card Loses up k s why tries extensions r t holds h =
+      misses_tap Card Other (out_at k s why) k s tries extensions r t holds (stayed k s r t h)
   going Terminal Loses up k s why tries extensions r t holds h =
-      let sent = sends_one k s why r t h in
-      (sent.0, misses_tap Terminal Other (out_at k s why) k s tries extensions _ _ holds sent.1)
+      then_more (Here (Passing k s Terminal))
+      (After Terminal Loses up (Going k s why tries extensions)) ((Terminal, sent_at k s why) ∷ []) []
+      (λ now told passing. misses_tap Terminal Other (out_at k s why) k s tries extensions now told
+      holds (gone k s now told passing)) r t (sends_one k s Terminal why r t h)
 
   step_taps : (at : End) (down up : Fate) (p : Place) (r : Reading) (t : Story)
       → HoldsAt m before commands p → TapAt at p r t
@@ -902,50 +837,42 @@ module _ (m : Meaning) (before commands : List (List ℕ)) where
   abbrev Told : End → World → Reading → Story → Type 0
   Told at w r t = Claim at w t
 
-  pub runs_taps : (at : End) (fates : List Fates) (p : Place) (r : Reading) (t : Story)
+  runs_taps : (at : End) (fates : List Fates) (p : Place) (r : Reading) (t : Story)
       → HoldsAt m before commands p → TapAt at p r t
       → Then (Told at (run m fates (world_of m before p))) r t (passed at m fates (world_of m
       before p))
   runs_taps at [] (Given_up w cause) r t holds h = h
   runs_taps at [] (Finished w) r t holds h = h
   runs_taps at [] (Going k s why tries extensions) r t holds h =
-      claim_inv at _ k s r t (refl, refl)
-      (λ cause e. let no = sym (moves s) ∙ ap has_stopped e in cc) holds h
+      claim_inv _ k s at r t refl refl
+      (λ cause e. let stopped = sym (moves s) ∙ ap has_stopped e in cc) holds h
   runs_taps at (x ∷ xs) p r t holds h =
       let w : World = world_of m before p in
       let next : Place = step m before x.down x.up p in
       let first : List Passed = passes_both at m x w.card (sends w.terminal) in
       subst (λ v. Then (Told at (run m xs v)) r t (first ++ passed at m xs v))
       (sym (is_step m before x.down x.up p))
-      (then_more (Told at (run m xs (world_of m before next))) r t first
+      (then_more (After at x.down x.up p) (Told at (run m xs (world_of m before next))) first
       (passed at m xs (world_of m before next))
-      (then_all (After at x.down x.up p) (λ now told. Then (Told at (run m xs (world_of m before
-      next)))
-      now told (passed at m xs (world_of m before next))) r t first
       (λ now told tap. runs_taps at xs next now told (step_holds m before commands x.down x.up p
-      holds)
-      tap) (step_taps at x.down x.up p r t holds h)))
+      holds) tap) r t (step_taps at x.down x.up p r t holds h))
 
-first_taps : (at : End) (m : Meaning) (before : List (List ℕ)) (settings : Settings)
-    (commands : List (List ℕ)) → TapAt m before commands at (first before settings commands) fresh
-    untold
-first_taps at m before settings [] = record {
-  rest = [];
-  in_order = refl;
-  begun = λ begun. absurd (cc);
-  answered = omega arith;
-  few = omega arith;
-  ran = [];
-  ran_is = sym (append-nil before);
-  at_card = λ card. (omega arith, omega arith);
-  at_terminal = λ terminal long. omega arith;
-  told = λ terminal cause gone. absurd (cc);
-}
-first_taps at m before settings (c ∷ cs) = record {
-  at = record { old = None; new = None; again = false; is = refl };
-  told = refl;
-  idle = λ begun. absurd (cc);
-}
+  first_taps : (at : End) (settings : Settings) (todo : List (List ℕ)) → todo ≡ commands
+      → TapAt at (first before settings todo) fresh untold
+  first_taps at settings [] all =
+      claim_ended at _ [] [] untold (sym (append-nil before)) all refl (λ begun. absurd (cc))
+      (omega arith) (omega arith) (λ terminal long. omega arith)
+      (λ n is terminal cause gone. absurd (cc))
+  first_taps at settings (c ∷ cs) all = (
+    refl,
+    record {
+      terminal_next = refl;
+      card_next = refl;
+      turn_is = refl;
+      told = refl;
+      newest = (λ begun. absurd (cc), refl);
+    },
+  )
 
 pub overheard : (at : End) (m : Meaning) (settings : Settings) (before commands : List (List ℕ))
     (fates : List Fates) (edc : Code) (items : List Item) (rest : List Heard)
@@ -963,5 +890,5 @@ overheard at m settings before commands fates edc items rest are passed_so =
     v))
     (sym (first_is m before settings commands))
     (runs_taps m before commands at fates p fresh untold (first_holds m before settings commands)
-    (first_taps at m before settings commands)))) in
+    (first_taps m before commands at settings commands refl)))) in
     (all.0, all.1.1)

@@ -1,5 +1,5 @@
 -- What one more block changes at a tap that has missed nothing.
-use Rattle.std.proofs.Common.{◌≡◌, ◌≢◌, refl, sym, ap, subst, ◌∙◌, ℕ, Bool, true, false, not, List, [], ◌∷◌, ◌++◌, length, Some, append-nil, cond}
+use Rattle.std.proofs.Common.{◌≡◌, ◌≢◌, refl, sym, ap, subst, ◌∙◌, ℕ, Bool, true, false, not, List, [], ◌∷◌, ◌++◌, length, Some, append_assoc, append-nil, cond}
 use Rattle.std.proofs.lemmas.Bool.{eq-eqb}
 use Rattle.std.proofs.Math.Seq.{take-append_seam, take-length}
 use Rattle.std.specs.List.{AllByRecursion}
@@ -72,11 +72,12 @@ put from front field more = record {
   progress = cond (not more) Whole Begun;
 }
 
--- N(S) of both ends, the messages before `rest`, and the bytes so far of the next one
-pub record Level (tn cn : Bool) (turn : End) (rest done : List Message) (bytes : List ℕ)
+-- N(S) of the end whose turn it is and of the other, the messages before `rest`, and the bytes so
+-- far of the next one
+pub record Level (turn : End) (own peers : Bool) (rest done : List Message) (bytes : List ℕ)
     (r : Reading) (s : Story) : Type 0 where
-  pub terminal_next : r.terminal.next ≡ tn
-  pub card_next : r.card.next ≡ cn
+  pub own_is : (numbers_of turn r).next ≡ own
+  pub peers_is : (numbers_of (peer turn) r).next ≡ peers
   pub turn_is : r.turn ≡ turn
   pub told : messages s ++ rest ≡ done
   pub newest : Newest r.within turn bytes s.now
@@ -84,8 +85,8 @@ pub record Level (tn cn : Bool) (turn : End) (rest done : List Message) (bytes :
 -- the newest block is this field of this end; `rest` follows the messages before it
 pub record New (from : End) (own peers : Bool) (rest done : List Message) (front field : List ℕ)
     (more : Bool) (r : Reading) (s : Story) : Type 0 where
-  pub own_next : (numbers_of from r).next ≡ own
-  pub peers_next : (numbers_of (peer from) r).next ≡ peers
+  pub own_is : (numbers_of from r).next ≡ own
+  pub peers_is : (numbers_of (peer from) r).next ≡ peers
   pub turn : r.turn ≡ cond more from (peer from)
   pub within : r.within ≡ more
   pub newest : (numbers_of from r).newest ≡ Some (more, length field)
@@ -151,45 +152,34 @@ asked n {cn} {more} {rest} {done} {front} {field} r s why h =
       so false false = refl
 
       is : reads r Card (Valid (R n why)) ≡ (role.Asks, record r { again = true })
-      is = rw (h.0, h.1.own_next, h.1.turn, h.1.within, same_other_2 n, so r.again more) refl
+      is = rw (h.0, h.1.own_is, h.1.turn, h.1.within, same_other_2 n, so r.again more) refl
 
 same_end : (e : End) → is_end e e ≡ true
 same_end Terminal = refl
 same_end Card = refl
 
--- an end sends its next field
-pub new_field : (n peers : Bool) (rest done : List Message) (front : List ℕ) (from : End)
-    (more : Bool) (field : List ℕ) (r : Reading) (s : Story) → r.missed ≡ false
-    → (numbers_of from r).next ≡ n → (numbers_of (peer from) r).next ≡ peers → r.turn ≡ from
-    → messages s ++ rest ≡ done → Newest r.within from front s.now
+-- an end sends a field, which is read so and told so
+sends : (from : End) (n peers more : Bool) (rest given done : List Message) (front field : List ℕ)
+    (role : Role) (r : Reading) (s : Story) → r.missed ≡ false
+    → (numbers_of (peer from) (bare r)).next ≡ peers → given ++ rest ≡ done
+    → reads r from (Valid (I n more field))
+    ≡ (role, goes (sent r from n (more, length field)) from more) → is_known role ≡ true
+    → tells s from role (Valid (I n more field))
+    ≡ record { given = given; now = put from front field more }
     → One (Here (New from (other n) peers rest done front field more)) r s from (I n more field)
-new_field n peers rest done front from more field r s missed own theirs turn told newest =
-    one (Here (New from (other n) peers rest done front field more)) r _ s
-    (record { given = messages s; now = put from front field more }) from (I n more field)
-    (role.Field (not r.within) (not more)) (is from missed own turn) refl
-    (told_so r.within s more newest) (kept from missed theirs) where
-      is : (e : End) → r.missed ≡ false → (numbers_of e r).next ≡ n → r.turn ≡ e
-          → reads r e (Valid (I n more field))
-          ≡ (role.Field (not r.within) (not more), goes (sent r e n (more, length field)) e more)
-      is Terminal missed own turn = rw (missed, own, same_self n, turn) refl
-      is Card missed own turn = rw (missed, own, same_self n, turn) refl
-
-      told_so : (within : Bool) (s : Story) (more : Bool) → Newest within from front s.now
-          → tells s from (role.Field (not within) (not more)) (Valid (I n more field))
-          ≡ record { given = messages s; now = put from front field more }
-      told_so true s true h = rw (h.0, take-length s.now.bytes, h.2) refl
-      told_so true s false h = rw (h.0, take-length s.now.bytes, h.2) refl
-      told_so false s more h = rw h.1 refl
-
-      kept : (e : End) → r.missed ≡ false → (numbers_of (peer e) r).next ≡ peers
+sends from n peers more rest given done front field role r s missed same told is known so =
+    one (Here (New from (other n) peers rest done front field more)) r
+    (goes (sent r from n (more, length field)) from more) s _ from (I n more field) role is known so
+    (by from same) where
+      by : (e : End) → (numbers_of (peer e) (bare r)).next ≡ peers
           → Here (New e (other n) peers rest done front field more)
           (goes (sent r e n (more, length field)) e more)
-          (record { given = messages s; now = put e front field more })
-      kept Terminal missed theirs = (
+          (record { given = given; now = put e front field more })
+      by Terminal is = (
         missed,
         record {
-          own_next = refl;
-          peers_next = theirs;
+          own_is = refl;
+          peers_is = is;
           turn = refl;
           within = refl;
           newest = refl;
@@ -197,11 +187,11 @@ new_field n peers rest done front from more field r s missed own theirs turn tol
           now = refl;
         },
       )
-      kept Card missed theirs = (
+      by Card is = (
         missed,
         record {
-          own_next = refl;
-          peers_next = theirs;
+          own_is = refl;
+          peers_is = is;
           turn = refl;
           within = refl;
           newest = refl;
@@ -210,87 +200,97 @@ new_field n peers rest done front from more field r s missed own theirs turn tol
         },
       )
 
-told_again : (front field : List ℕ) (was : Bool) (from : End) (n more : Bool) (f : List ℕ)
-    (s : Story) → s.now ≡ put from front field was
-    → tells s from (role.Repetition (not more)) (Valid (I n more f))
-    ≡ record { given = s.given; now = put from front f more }
-told_again front field was from n true f s is =
-    rw (is, same_end from, append-nil s.given, take-append_seam front field) refl
-told_again front field was from n false f s is =
-    rw (is, same_end from, append-nil s.given, take-append_seam front field) refl
+-- an end sends its next field
+pub new_field : (from : End) (n more : Bool) (field : List ℕ) {peers : Bool}
+    {rest done : List Message} {front : List ℕ} (r : Reading) (s : Story)
+    → Here (Level from n peers rest done front) r s
+    → One (Here (New from (other n) peers rest done front field more)) r s from (I n more field)
+new_field from n more field {peers} {rest} {done} {front} r s h =
+    sends from n peers more rest (messages s) done front field (role.Field (not r.within) (not more))
+    r s h.0 h.1.peers_is h.1.told (is from h.1.own_is h.1.turn_is) refl
+    (so r.within s more h.1.newest) where
+      is : (e : End) → (numbers_of e (bare r)).next ≡ n → r.turn ≡ e → reads r e (Valid (I n more field))
+          ≡ (role.Field (not r.within) (not more), goes (sent r e n (more, length field)) e more)
+      is Terminal own turn = rw (h.0, own, same_self n, turn) refl
+      is Card own turn = rw (h.0, own, same_self n, turn) refl
 
--- the terminal sends its field again, for which the card has asked, and may cut it
-pub terminal_again : (n : Bool) {cn was : Bool} {rest done : List Message} {front field : List ℕ}
-    (more : Bool) (f : List ℕ) (r : Reading) (s : Story)
-    → Here (New Terminal (other n) cn rest done front field was) r s → r.again ≡ true
-    → One (Here (New Terminal (other n) cn rest done front f more)) r s Terminal (I n more f)
-terminal_again n {cn} {was} {rest} {done} {front} {field} more f r s h again =
-    one (Here (New Terminal (other n) cn rest done front f more)) r
-    (goes (sent r Terminal n (more, length f)) Terminal more) s
-    (record { given = s.given; now = put Terminal front f more }) Terminal (I n more f)
-    (role.Repetition (not more))
-    (rw (h.0, h.1.own_next, again, same_other_2 n) refl) refl (told_again front field was Terminal n more f s h.1.now) (
+      so : (within : Bool) (s : Story) (more : Bool) → Newest within from front s.now
+          → tells s from (role.Field (not within) (not more)) (Valid (I n more field))
+          ≡ record { given = messages s; now = put from front field more }
+      so true s true h = rw (h.0, take-length s.now.bytes, h.2) refl
+      so true s false h = rw (h.0, take-length s.now.bytes, h.2) refl
+      so false s more h = rw h.1 refl
+
+-- an end sends its newest field again, and may cut it
+sends_again : (from : End) (n more : Bool) (f : List ℕ) {peers was : Bool} {rest done : List Message}
+    {front field : List ℕ} (r : Reading) (s : Story)
+    → Here (New from (other n) peers rest done front field was) r s
+    → reads r from (Valid (I n more f))
+    ≡ (role.Repetition (not more), goes (sent r from n (more, length f)) from more)
+    → One (Here (New from (other n) peers rest done front f more)) r s from (I n more f)
+sends_again from n more f {peers} {was} {rest} {done} {front} {field} r s h is =
+    sends from n peers more rest s.given done front f (role.Repetition (not more)) r s h.0
+    h.1.peers_is h.1.told is refl (so more) where
+      so : (more : Bool) → tells s from (role.Repetition (not more)) (Valid (I n more f))
+          ≡ record { given = s.given; now = put from front f more }
+      so true = rw (h.1.now, same_end from, append-nil s.given, take-append_seam front field) refl
+      so false = rw (h.1.now, same_end from, append-nil s.given, take-append_seam front field) refl
+
+-- the card has asked for it
+pub terminal_again : (n more : Bool) (f : List ℕ) {peers was : Bool} {rest done : List Message}
+    {front field : List ℕ} (r : Reading) (s : Story)
+    → Here (New Terminal (other n) peers rest done front field was) r s → r.again ≡ true
+    → One (Here (New Terminal (other n) peers rest done front f more)) r s Terminal (I n more f)
+terminal_again n more f r s h again =
+    sends_again Terminal n more f r s h (rw (h.0, h.1.own_is, again, same_other_2 n) refl)
+
+pub card_again : (n : Bool) {peers more : Bool} {rest done : List Message} {front field : List ℕ}
+    (r : Reading) (s : Story) → Here (New Card (other n) peers rest done front field more) r s
+    → One (Here (New Card (other n) peers rest done front field more)) r s Card (I n more field)
+card_again n {peers} {more} {rest} {done} {front} {field} r s h =
+    sends_again Card n more field r s h (rw (
       h.0,
-      record {
-        own_next = refl;
-        peers_next = h.1.peers_next;
-        turn = refl;
-        within = refl;
-        newest = refl;
-        told = h.1.told;
-        now = refl;
-      },
-    )
-
--- the card sends its field again
-pub card_again : (n : Bool) {tn more : Bool} {rest done : List Message} {front field : List ℕ} (r : Reading)
-    (s : Story) → Here (New Card (other n) tn rest done front field more) r s
-    → One (Here (New Card (other n) tn rest done front field more)) r s Card (I n more field)
-card_again n {tn} {more} {rest} {done} {front} {field} r s h =
-    one (Here (New Card (other n) tn rest done front field more)) r
-    (sent r Card n (more, length field)) s
-    (record { given = s.given; now = put Card front field more }) Card (I n more field)
-    (role.Repetition (not more)) is refl (told_again front field more Card n more field s h.1.now) (
-      h.0,
-      record {
-        own_next = refl;
-        peers_next = h.1.peers_next;
-        turn = h.1.turn;
-        within = h.1.within;
-        newest = refl;
-        told = h.1.told;
-        now = refl;
-      },
-    ) where
-      no : (again : Bool) → cond again false false ≡ false
-      no true = refl
-      no false = refl
-
-      is : reads r Card (Valid (I n more field))
-          ≡ (role.Repetition (not more), sent r Card n (more, length field))
-      is = rw (
-        h.0,
-        h.1.own_next,
-        h.1.newest,
-        same_other_2 n,
-        no r.again,
-        same_self more,
-        eq-eqb (length field)
-            (length field) refl,
-      ) refl
+      h.1.own_is,
+      h.1.newest,
+      same_other_2 n,
+      none r.again,
+      same_self more,
+      eq-eqb (length field) (length field) refl,
+      h.1.turn,
+      h.1.within,
+    ) refl) where
+      none : (again : Bool) → cond again false false ≡ false
+      none true = refl
+      none false = refl
 
 -- ---- the field has arrived
 
 pub more_follows : {from : End} {own peers : Bool} {rest done : List Message} {front field : List ℕ}
     (r : Reading) (s : Story) → New from own peers rest done front field true r s
-    → (messages s ++ rest ≡ done) × Newest r.within from (front ++ field) s.now
-more_follows {rest = rest} r s h =
-    rw (h.within, h.now) (ap (λ g. g ++ rest) (append-nil s.given) ∙ h.told, (refl, refl, refl))
+    → Level from own peers rest done (front ++ field) r s
+more_follows {rest = rest} r s h = record {
+  own_is = h.own_is;
+  peers_is = h.peers_is;
+  turn_is = h.turn;
+  told = rw h.now (ap (λ g. g ++ rest) (append-nil s.given) ∙ h.told);
+  newest = rw (h.within, h.now) (refl, refl, refl);
+}
 
+-- the message is whole, and `next` follows it
 pub it_ends : {from : End} {own peers : Bool} {rest done : List Message} {front field : List ℕ}
-    (r : Reading) (s : Story) → New from own peers rest done front field false r s
-    → (messages s ≡ s.given ++ (from, front ++ field) ∷ []) × Newest r.within (peer from) [] s.now
-it_ends r s h = rw (h.within, h.now) (refl, (λ begun. absurd (cc), refl))
+    (next now : List Message) (r : Reading) (s : Story)
+    → New from own peers rest done front field false r s
+    → s.given ++ (from, front ++ field) ∷ next ≡ now → Level (peer from) peers own next now [] r s
+it_ends {from} {own} {front = front} {field = field} next now r s h told = record {
+  own_is = h.peers_is;
+  peers_is = subst (λ e. (numbers_of e r).next ≡ own) (back from) h.own_is;
+  turn_is = h.turn;
+  told = rw h.now (append_assoc s.given ((from, front ++ field) ∷ []) next ∙ told);
+  newest = rw (h.within, h.now) (λ begun. absurd (cc), refl);
+} where
+  back : (e : End) → e ≡ peer (peer e)
+  back Terminal = refl
+  back Card = refl
 
 -- ---- items
 
@@ -301,41 +301,26 @@ pub of_items : (P : Reading → Story → Type 0) (edc : Edc) (r : Reading) (s :
     → AllByRecursion IsKnown items × ((now : Reading) × P now (tells_all s items))
 of_items P edc r s [] rest are h = (tt, (r, h))
 of_items P edc r s (i ∷ items) rest are h =
-    by (λ r' s' later_are then. of_items P edc r' s' items rest later_are then) i.found refl h where
-      role_is : i.role ≡ (reads r i.from i.found).0
-      role_is = ap (λ (j : Item). j.role) are.0.is
-          ∙ ap (λ f. (reads r i.from f).0) (sym (ap (λ (j : Item). j.found) are.0.is))
-
-      Rest : Role → Found → Type 0
-      Rest o f = AllByRecursion IsKnown items
+    let is = are.0.is in
+    by i.found i.role (ap (λ (j : Item). j.role) is
+    ∙ ap (λ f. (reads r i.from f).0) (sym (ap (λ (j : Item). j.found) is))) are.1 h
+    (λ r' s' later then. of_items P edc r' s' items rest later then) where
+      Rest : Found → Role → Type 0
+      Rest f o = ((is_known o ≡ true) × AllByRecursion IsKnown items)
           × ((now : Reading) × P now (tells_all (tells s i.from o f) items))
 
-      so : (f : Found) → i.found ≡ f → is_known (reads r i.from f).0 ≡ true
-          → Rest (reads r i.from f).0 f
-          → AllByRecursion IsKnown (i ∷ items) × ((now : Reading) × P now (tells_all s (i ∷ items)))
-      so f is known h =
-          let same_role : i.role ≡ (reads r i.from f).0 =
-          role_is ∙ ap (λ g. (reads r i.from g).0) is in
-          let all : Rest i.role i.found =
-          subst (λ g. Rest i.role g) (sym is) (subst (λ o. Rest o f) (sym same_role) h) in
-          ((ap is_known same_role ∙ known, all.0), all.1)
-
-      Later : Type 0
-      Later = (r' : Reading) (s' : Story) → AreItems edc r' items rest
+      by : (f : Found) (o : Role) → o ≡ (reads r i.from f).0
+          → AreItems edc (reads r i.from f).1 items rest
+          → Then P r s (valid_in i.from f ++ blocks_in items)
+          → ((r' : Reading) (s' : Story) → AreItems edc r' items rest
           → Then P r' s' (blocks_in items)
-          → AllByRecursion IsKnown items × ((now : Reading) × P now (tells_all s' items))
-
-      later_are : (f : Found) → i.found ≡ f → AreItems edc (reads r i.from f).1 items rest
-      later_are f is = subst (λ g. AreItems edc (reads r i.from g).1 items rest) is are.1
-
-      by : Later → (f : Found) → i.found ≡ f → Then P r s (valid_in i.from f ++ blocks_in items)
-          → AllByRecursion IsKnown (i ∷ items)
-          × ((now : Reading) × P now (tells_all s (i ∷ items)))
-      by later (Valid b) is h =
-          so (Valid b) is h.0 (later _ _ (later_are (Valid b) is) h.1)
-      by later (Damaged d) is h =
-          so (Damaged d) is refl (later r _ (later_are (Damaged d) is)
-          (subst (λ t. Then P r t (blocks_in items)) (sym (stays s)) h))
-      by later Cut is h =
-          so Cut is refl (later r _ (later_are Cut is)
-          (subst (λ t. Then P r t (blocks_in items)) (sym (stays s)) h))
+          → AllByRecursion IsKnown items × ((now : Reading) × P now (tells_all s' items)))
+          → Rest f o
+      by (Valid b) o is are h all =
+          let later = all _ _ are h.1 in subst (Rest (Valid b)) (sym is) ((h.0, later.0), later.1)
+      by (Damaged d) o is are h all =
+          let later = all r _ are (subst (λ t. Then P r t (blocks_in items)) (sym (stays s)) h) in
+          subst (Rest (Damaged d)) (sym is) ((refl, later.0), later.1)
+      by Cut o is are h all =
+          let later = all r _ are (subst (λ t. Then P r t (blocks_in items)) (sym (stays s)) h) in
+          subst (Rest Cut) (sym is) ((refl, later.0), later.1)

@@ -22,91 +22,22 @@ use Rattle.t1_core.specs.declared.terminal.Out.{Out}
 use Rattle.t1_core.specs.declared.terminal.Out.TheVariants.{Asks}
 use Rattle.t1_core.specs.declared.terminal.Outcome.{Outcome}
 use Rattle.t1_core.specs.Block.{Block, I, R, Request, Response, is_size, more, other}
-use Rattle.t1_core.specs.CardSide.{Meaning, answers_with, card_damaged, card_takes, carries_out, request_of}
+use Rattle.t1_core.specs.CardSide.{Meaning, Turn, answers_with, card_damaged, card_takes, carries_out, request_of}
 use Rattle.t1_core.specs.Overhearing.{IsBegun, IsGiven, IsKnown, IsOverheard, Message, Passed, Story, blocks_in, messages, passed, passes, passes_both, tells_all, turns, untold}
 use Rattle.t1_core.specs.TerminalSide.{has_stopped, longest, outcome_of, outcome_with, sends}
 use Rattle.t1_core.specs.Gathering.{Gathered}
 use Rattle.t1_core.specs.Hearing.{AreItems, Heard, Item}
-use Rattle.t1_core.specs.Reading.{fresh, is_end}
+use Rattle.t1_core.specs.Reading.{fresh, is_end, peer}
 use Rattle.t1_core.specs.World.{World, run, start}
 use Rattle.t1_core.proofs.Bits.{same_self, same_other_2, other_other}
 use Rattle.t1_core.proofs.HeardBlocks.{Here, IsPlain, Level, New, Newest, One, Then, asked, card_again, it_ends, more_follows, new_field, of_items, plain, terminal_again, then_more}
 use Rattle.t1_core.proofs.Holding.{AddsUp, Holds, HoldsAt, first, first_holds, first_is, heard_holds, many, moves, responding, sending, step_holds}
-use Rattle.t1_core.proofs.Places.{Kept, Spot, Place, Going, Opens, Behind, Taken, Waits, Grows, Between, Sent, Given_up, Finished, arrived, asking, card_at, card_in, comes, comes_next, garbled, grows, heard, is_heard, is_long, misses, numbered, out_at, out_of, proceeds, reply_of, requests, runs, starts, step, terminal_at, terminal_in, uses, with_phase, world_of, IsHeard, error_of, is_step}
-
--- ---- the blocks of an exchange
-
-abbrev pub sent_at : Kept → Spot → BlockReason → Block
-sent_at k (Opens rest asks) why = Request (Ifs longest)
-sent_at k (Behind false collected rest answering) why = I k.number (more rest) k.field
-sent_at k (Waits rest n size true) why = Response (Wtx k.multiple)
-sent_at k (Grows rest size true) why = Response (Ifs size)
-sent_at k s why = R k.due why
-
-pub sends_it : (k : Kept) (s : Spot) (why : BlockReason) (tries extensions : ℕ)
-    → sends (terminal_at (out_at k s why) k s tries extensions) ≡ Some (sent_at k s why)
-sends_it k (Opens rest true) why tries extensions = refl
-sends_it k (Behind true collected rest answering) why tries extensions = refl
-sends_it k (Waits rest n size true) why tries extensions = refl
-sends_it k (Grows rest size true) why tries extensions = refl
-sends_it k (Sent true got rest) why tries extensions = refl
-sends_it k _ why tries extensions = refl
-
--- the card's reply to a damaged block
-abbrev pub garble_at : Kept → Spot → Block
-garble_at k (Waits rest n size granted) = Request (Wtx k.multiple)
-garble_at k (Grows rest size granted) = Request (Ifs size)
-garble_at k s = R (card_in k s).2 Edc
+use Rattle.t1_core.proofs.Places.{sent_at, sends_it, garble_at, garbles_it, takes_it, Kept, Spot, Place, Going, Opens, Behind, Taken, Waits, Grows, Between, Sent, Given_up, Finished, arrived, asking, card_at, card_in, comes, comes_next, garbled, grows, heard, is_heard, is_long, misses, numbered, out_at, out_of, proceeds, reply_of, requests, runs, starts, step, terminal_at, terminal_in, uses, with_phase, world_of, IsHeard, error_of, is_step}
 
 garble_plain : (k : Kept) (s : Spot) → IsPlain (garble_at k s)
 garble_plain k (Waits rest n size granted) = tt
 garble_plain k (Grows rest size granted) = tt
 garble_plain k _ = tt
-
-module _ (m : Meaning) (before : List (List ℕ)) where
-  pub garbles_it : (k : Kept) (s : Spot)
-      → (card_damaged Edc (card_at m before k s)).block ≡ Some (garble_at k s)
-  garbles_it k (Waits rest n size granted) = refl
-  garbles_it k (Grows rest size granted) = refl
-  garbles_it k _ = refl
-
-  replies_now : (k : Kept) (rest : List ℕ) (n : ℕ) (size : Option ℕ)
-      → (answers_with (request_of (requests n k.multiple size))
-      (record (card_at m before k (Sent true [] rest)) {
-        next = k.due;
-        answering = false;
-        left = requests n k.multiple size;
-      })).block ≡ Some (reply_of m before NoError k (starts rest n size))
-  replies_now k rest (suc n) size = refl
-  replies_now k rest zero (Some size) = refl
-  replies_now k rest zero None = refl
-
-  -- the card's reply to a block that arrives
-  pub replies_it : (k : Kept) (s : Spot) (why : BlockReason) → (error : BlockReason)
-      × ((card_takes m (sent_at k s why) (card_at m before k s)).block
-      ≡ Some (reply_of m before error (heard m before k s).0 (heard m before k s).1))
-  replies_it k (Opens rest asks) why = (NoError, refl)
-  replies_it k (Behind true collected rest answering) why = (Other, rw (same_self k.due) refl)
-  replies_it k (Behind false collected [] answering) why =
-      let done : List (List ℕ) = k.done ++ (collected ++ k.field) ∷ [] in (
-        NoError,
-        rw (same_self k.number)
-            (ap (λ ran. (carries_out m (card_at m before k (Behind false collected [] answering))
-            ran).block) (append_assoc before k.done ((collected ++ k.field) ∷ []))
-            ∙ replies_now (runs m before k done) (drop k.ifsd (m.does (before ++ done)))
-            (m.asks (before ++ done)).extensions (m.asks (before ++ done)).size),
-      )
-  replies_it k (Behind false collected (b ∷ bytes) answering) why =
-      (NoError, rw (same_self k.number) refl)
-  replies_it k (Taken collected b bytes) why = (Other, rw (same_self k.due) refl)
-  replies_it k (Waits rest n size true) why =
-      (NoError, rw (eq-eqb k.multiple k.multiple refl) (replies_now k rest n size))
-  replies_it k (Waits rest n size false) why = (NoError, refl)
-  replies_it k (Grows rest size true) why = (NoError, rw (eq-eqb size size refl) refl)
-  replies_it k (Grows rest size false) why = (NoError, refl)
-  replies_it k (Between got b bytes) why = (NoError, rw (same_self k.due) refl)
-  replies_it k (Sent first got rest) why =
-      (NoError, rw (same_other_2 k.due) (rw (other_other k.due) refl))
 
 -- ---- each command and its response
 
@@ -145,6 +76,10 @@ turn_in (Opens rest asks) = Terminal
 turn_in (Behind asks collected rest answering) = Terminal
 turn_in (Taken collected b bytes) = Terminal
 turn_in _ = Card
+
+abbrev own_of : End → (terminal card : Bool) → Bool
+own_of Terminal terminal card = terminal
+own_of Card terminal card = card
 
 abbrev so_far : Spot → List ℕ
 so_far (Behind asks collected rest answering) = collected
@@ -186,7 +121,9 @@ module _ (m : Meaning) (before commands : List (List ℕ)) where
 
   -- what was heard is what both ends have
   abbrev At : Kept → Spot → Reading → Story → Type 0
-  At k s = Level (card_in k s).2 k.due (turn_in s) (replies (responds k s)) (Turns k.done) (so_far s)
+  At k s = Level (turn_in s) (own_of (turn_in s) (card_in k s).2 k.due)
+      (own_of (peer (turn_in s)) (card_in k s).2 k.due) (replies (responds k s)) (Turns k.done)
+      (so_far s)
 
   -- a field that the other end has not received was heard too
   abbrev Ahead : Kept → Spot → Reading → Story → Type 0
@@ -232,45 +169,28 @@ module _ (m : Meaning) (before commands : List (List ℕ)) where
 
   -- ---- one block
 
-  sends_field : (k : Kept) (asks : Bool) (collected rest : List ℕ) (answering : Bool) (r : Reading)
-      (t : Story) → Here (At k (Behind asks collected rest answering)) r t
-      → One (Here (Ahead k (Behind asks collected rest answering))) r t Terminal
-      (I k.number (more rest) k.field)
-  sends_field k asks collected rest answering r t h =
-      new_field k.number k.due [] (Turns k.done) collected Terminal (more rest) k.field r t h.0
-      h.1.terminal_next h.1.card_next h.1.turn_is h.1.told h.1.newest
-
   sends_one : (k : Kept) (s : Spot) (at : End) (why : BlockReason) (r : Reading) (t : Story)
       → Inv k s at r t → One (Here (Passing k s at)) r t Terminal (sent_at k s why)
   sends_one k (Behind false collected rest answering) Terminal why r t (inl h) =
-      sends_field k false collected rest answering r t h
+      new_field Terminal k.number (more rest) k.field r t h
   sends_one k (Behind false collected rest answering) Terminal why r t (inr h) =
       terminal_again k.number (more rest) k.field r t h.0 h.1
   sends_one k (Behind false collected rest answering) Card why r t h =
-      sends_field k false collected rest answering r t h
+      new_field Terminal k.number (more rest) k.field r t h
   sends_one k (Waits rest n size true) at why r t h =
       plain (Mid k (Waits rest n size true) at) r t Terminal (Response (Wtx k.multiple)) tt h
   sends_one k (Grows rest size true) at why r t h =
       plain (Mid k (Grows rest size true) at) r t Terminal (Response (Ifs size)) tt h
   sends_one k s at why r t h = plain (Mid k s at) r t Terminal (sent_at k s why) tt h
 
-  -- the card's next field
-  answers_field : (k : Kept) (first : Bool) (got rest : List ℕ) (r : Reading) (t : Story)
-      → Here (At k (Sent first got rest)) r t
-      → One (Here (Ahead k (Sent first got rest))) r t Card (I k.due (more rest) k.last)
-  answers_field k first got rest r t h =
-      new_field k.due (cond first (other k.number) k.number) ((Card, got ++ (k.last ++ rest)) ∷ [])
-      (Turns k.done) got Card (more rest) k.last r t h.0 h.1.card_next h.1.terminal_next h.1.turn_is
-      h.1.told h.1.newest
-
   replies_one : (e : BlockReason) (k : Kept) (s : Spot) (at : End) (r : Reading) (t : Story)
       → IsHeard k s → Here (Received k s at) r t
       → One (Post k s at) r t Card (reply_of m before e k s)
   replies_one e k (Behind asks collected rest answering) Terminal r t a h = asked k.number r t e h
   replies_one e k (Sent first got rest) at r t a (missed, inl h) =
-      answers_field k first got rest r t (missed, h)
+      new_field Card k.due (more rest) k.last r t (missed, h)
   replies_one e k (Sent first got rest) Terminal r t a (missed, inr h) =
-      answers_field k first got rest r t (missed, h)
+      new_field Card k.due (more rest) k.last r t (missed, h)
   replies_one e k (Sent first got rest) Card r t a (missed, inr h) = card_again k.due r t (missed, h)
   replies_one e k (Between got b bytes) at r t a h = absurd a
   replies_one e k s at r t a h = plain (Mid k s at) r t Card (reply_of m before e k s) tt h
@@ -282,38 +202,15 @@ module _ (m : Meaning) (before commands : List (List ℕ)) where
       → New Terminal (other k.number) k.due [] (Turns k.done) collected k.field false r t
       → let done : List (List ℕ) = k.done ++ (collected ++ k.field) ∷ [] in
       let resp : List ℕ = m.does (before ++ done) in
-      Level (other k.number) k.due Card ((Card, take k.ifsd resp ++ drop k.ifsd resp) ∷ [])
+      Level Card k.due (other k.number) ((Card, take k.ifsd resp ++ drop k.ifsd resp) ∷ [])
       (Turns done) [] r t
   runs_at k collected r t h =
       let done : List (List ℕ) = k.done ++ (collected ++ k.field) ∷ [] in
-      let c : Message = (Terminal, collected ++ k.field) in
-      let ends = it_ends r t h in
-      record {
-        terminal_next = h.own_next;
-        card_next = h.peers_next;
-        turn_is = h.turn;
-        told = ap (λ r. messages t ++ (Card, r) ∷ []) (take-append-drop k.ifsd (m.does
-            (before ++ done)))
-            ∙ ap (λ ts. ts ++ (Card, m.does (before ++ done)) ∷ [])
-            (ends.0 ∙ ap (λ ts. ts ++ c ∷ []) (sym (append-nil t.given) ∙ h.told))
-            ∙ append_assoc (Turns k.done) (c ∷ []) ((Card, m.does (before ++ done)) ∷ [])
-            ∙ sym (turns_last m.does before k.done (collected ++ k.field));
-        newest = ends.1;
-      }
-
-  -- after another field
-  takes_at : (k : Kept) (collected : List ℕ) (r : Reading) (t : Story)
-      → New Terminal (other k.number) k.due [] (Turns k.done) collected k.field true r t
-      → Level (other k.number) k.due Terminal [] (Turns k.done) (collected ++ k.field) r t
-  takes_at k collected r t h =
-      let follows = more_follows r t h in
-      record {
-        terminal_next = h.own_next;
-        card_next = h.peers_next;
-        turn_is = h.turn;
-        told = follows.0;
-        newest = follows.1;
-      }
+      it_ends _ _ r t h (ap (λ resp. t.given ++ (Terminal, collected ++ k.field) ∷ (Card, resp) ∷ [])
+      (take-append-drop k.ifsd (m.does (before ++ done)))
+      ∙ ap (λ ts. ts ++ (Terminal, collected ++ k.field) ∷ (Card, m.does (before ++ done)) ∷ [])
+      (sym (append-nil t.given) ∙ h.told)
+      ∙ sym (turns_last m.does before k.done (collected ++ k.field)))
 
   takes : (k : Kept) (s : Spot) (at : End) (r : Reading) (t : Story) → Passing k s at r t
       → Received (heard m before k s).0 (heard m before k s).1 at r t
@@ -323,12 +220,12 @@ module _ (m : Meaning) (before commands : List (List ℕ)) where
       starts_by (λ s. Received (runs m before k done) s at r t) (drop k.ifsd (m.does (before ++
       done))) (m.asks (before ++ done)).extensions (m.asks (before ++ done)).size (λ n size. now)
       (λ size. now) (inl now)
-  takes k (Behind false collected (b ∷ bytes) answering) at r t h = takes_at k collected r t h
+  takes k (Behind false collected (b ∷ bytes) answering) at r t h = more_follows r t h
   takes k (Waits rest n size true) at r t h =
       starts_by (λ s. Received k s at r t) rest n size (λ n size. h) (λ size. h) (inl h)
   takes k (Grows rest size true) at r t h = inl h
   takes k (Between got b bytes) at r t h =
-      inl (subst (λ resp. Level k.number k.due Card ((Card, got ++ resp) ∷ []) (Turns k.done) got r t)
+      inl (subst (λ resp. Level Card k.due k.number ((Card, got ++ resp) ∷ []) (Turns k.done) got r t)
       (sym (take-append-drop k.ifsd (b ∷ bytes))) h)
   takes k (Sent first got rest) at r t h = inr h
   takes k _ at r t h = h
@@ -444,7 +341,7 @@ module _ (m : Meaning) (before commands : List (List ℕ)) where
   claim_sent w k collected (b ∷ bytes) answering r t ran same late holds h =
       let s : Spot = Behind false collected (b ∷ bytes) answering in
       claim_at Terminal w (heard m before k s).0 (heard m before k s).1 k.done r t ran same
-      (λ card. absurd (cc)) (heard_holds m before commands k s holds).0 (takes_at k collected r t h)
+      (λ card. absurd (cc)) (heard_holds m before commands k s holds).0 (more_follows r t h)
       (λ n is terminal cause gone. subst (λ o. IsGiven o (length w.answers) n)
       (sym (late terminal cause gone)) (omega (arith, is)))
   claim_sent w k collected [] answering r t ran same late holds h =
@@ -467,29 +364,19 @@ module _ (m : Meaning) (before commands : List (List ℕ)) where
   -- the card's field was heard, and the terminal may not have received it
   replied : (k : Kept) (got : List ℕ) {own peers : Bool} (r : Reading) (t : Story)
       → New Card own peers ((Card, got ++ (k.last ++ [])) ∷ []) (Turns k.done) got k.last false r t
-      → (messages t ++ [] ≡ Turns k.done) × Newest r.within Terminal [] t.now
+      → Level Terminal peers own [] (Turns k.done) [] r t
   replied k got r t h =
-      let ends = it_ends r t h in (
-        append-nil (messages t) ∙ ends.0
-            ∙ ap (λ l. t.given ++ (Card, got ++ l) ∷ []) (sym (append-nil k.last)) ∙ h.told,
-        ends.1,
-      )
+      it_ends [] (Turns k.done) r t h
+      (ap (λ l. t.given ++ (Card, got ++ l) ∷ []) (sym (append-nil k.last)) ∙ h.told)
 
   replies_more : (k : Kept) (got : List ℕ) (b : ℕ) (bytes : List ℕ) {own peers : Bool} (r : Reading)
       (t : Story) → New Card own peers ((Card, got ++ (k.last ++ (b ∷ bytes))) ∷ []) (Turns k.done)
       got k.last true r t
-      → Level peers own Card ((Card, (got ++ k.last) ++ (b ∷ bytes)) ∷ []) (Turns k.done)
+      → Level Card own peers ((Card, (got ++ k.last) ++ (b ∷ bytes)) ∷ []) (Turns k.done)
       (got ++ k.last) r t
-  replies_more k got b bytes r t h =
-      let follows = more_follows r t h in
-      record {
-        terminal_next = h.peers_next;
-        card_next = h.own_next;
-        turn_is = h.turn;
-        told = ap (λ resp. messages t ++ (Card, resp) ∷ []) (append_assoc got k.last (b ∷ bytes))
-            ∙ follows.0;
-        newest = follows.1;
-      }
+  replies_more k got b bytes {own} {peers} r t h =
+      subst (λ resp. Level Card own peers ((Card, resp) ∷ []) (Turns k.done) (got ++ k.last) r t)
+      (sym (append_assoc got k.last (b ∷ bytes))) (more_follows r t h)
 
   idle_in : (within : Bool) (g : Gathered) → within ≡ false → Newest within Terminal [] g
       → g.progress ≢ Begun
@@ -513,7 +400,8 @@ module _ (m : Meaning) (before commands : List (List ℕ)) where
       let now = replied k got r t h in
       let many = many m before commands up in
       let answers = ap length same in
-      claim_ended at w k.done k.todo t ran up.whole now.0 (idle_in r.within t.now h.within now.1)
+      claim_ended at w k.done k.todo t ran up.whole now.told
+      (idle_in r.within t.now h.within now.newest)
       (omega (arith, many, answers)) (omega (arith, many, answers))
       (λ terminal long. absurd (unheard terminal long))
       (λ n is terminal cause gone. subst (λ o. IsGiven o (length w.answers) n)
@@ -597,7 +485,7 @@ module _ (m : Meaning) (before commands : List (List ℕ)) where
 
   proceeds_tap : (at : End) (k : Kept) (todo : List (List ℕ)) (w : World) (r : Reading) (t : Story)
       → w.card.ran ≡ before ++ k.done → length w.answers ≡ length k.done → k.done ++ todo ≡ commands
-      → r.within ≡ false → Here (Level k.number k.due Terminal [] (Turns k.done) []) r t
+      → r.within ≡ false → Here (Level Terminal k.number k.due [] (Turns k.done) []) r t
       → TapAt at (proceeds k todo w) r t
   proceeds_tap at k [] w r t ran same all within h =
       claim_ended at (with_phase Over (record w { todo = [] })) k.done [] t ran all h.1.told
@@ -616,20 +504,10 @@ module _ (m : Meaning) (before commands : List (List ℕ)) where
       claim_replied at _ k false got rest _ t refl refl (λ t c e. refl)
       (λ terminal long. long refl) up h.1
   next_tap at false out k got [] tries extensions r t up h =
-      let now = replied k got _ t h.1 in
       let many = many m before commands up in
       let one = length-append k.answers ((got ++ k.last) ∷ []) in
       proceeds_tap at (record k { answers = k.answers ++ (got ++ k.last) ∷ []; due = other k.due })
-      k.todo _ r t refl (omega (arith, many, one)) up.whole h.1.within (
-        h.0,
-        record {
-          terminal_next = h.1.peers_next;
-          card_next = h.1.own_next;
-          turn_is = h.1.turn;
-          told = now.0;
-          newest = now.1;
-        },
-      )
+      k.todo _ r t refl (omega (arith, many, one)) up.whole h.1.within (h.0, replied k got _ t h.1)
   next_tap at false out k got (b ∷ bytes) tries extensions r t up h =
       (h.0, replies_more k got b bytes _ t h.1)
 
@@ -769,9 +647,9 @@ module _ (m : Meaning) (before commands : List (List ℕ)) where
       ((Terminal, sent_at k s why) ∷ passes (is_end Card at) Card up
       (card_takes m (sent_at k s why) (card_at m before k s)).block)
   taken k s why tries extensions at up r t holds h =
-      let reply = replies_it m before k s why in
+      let reply = takes_it m before k s why in
       subst (λ b. Then (After at Delivers up (Going k s why tries extensions)) r t
-      ((Terminal, sent_at k s why) ∷ passes (is_end Card at) Card up b)) (sym reply.1)
+      ((Terminal, sent_at k s why) ∷ passes (is_end Card at) Card up b)) (sym (ap (λ (x : Turn). x.block) reply.1))
       (then_more (Here (Passing k s at)) (After at Delivers up (Going k s why tries extensions))
       ((Terminal, sent_at k s why) ∷ []) (passes (is_end Card at) Card up
       (Some (reply_of m before reply.0 (heard m before k s).0 (heard m before k s).1)))
@@ -803,11 +681,11 @@ module _ (m : Meaning) (before commands : List (List ℕ)) where
       taken k s why tries extensions Terminal up r t holds h
   going Card Damages up k s why tries extensions r t holds h =
       subst (λ b. Then (After Card Damages up (Going k s why tries extensions)) r t
-      (passes true Card up b)) (sym (garbles_it m before k s))
+      (passes true Card up b)) (sym (ap (λ (x : Turn). x.block) (garbles_it m before k s)))
       (garbled_tap k s why tries extensions Card up r t holds (stayed k s r t h))
   going Terminal Damages up k s why tries extensions r t holds h =
       subst (λ b. Then (After Terminal Damages up (Going k s why tries extensions)) r t
-      ((Terminal, sent_at k s why) ∷ passes false Card up b)) (sym (garbles_it m before k s))
+      ((Terminal, sent_at k s why) ∷ passes false Card up b)) (sym (ap (λ (x : Turn). x.block) (garbles_it m before k s)))
       (then_more (Here (Passing k s Terminal))
       (After Terminal Damages up (Going k s why tries extensions)) ((Terminal, sent_at k s why) ∷ [])
       (passes false Card up (Some (garble_at k s)))
@@ -866,8 +744,8 @@ module _ (m : Meaning) (before commands : List (List ℕ)) where
   first_taps at settings (c ∷ cs) all = (
     refl,
     record {
-      terminal_next = refl;
-      card_next = refl;
+      own_is = refl;
+      peers_is = refl;
       turn_is = refl;
       told = refl;
       newest = (λ begun. absurd (cc), refl);

@@ -1,5 +1,5 @@
 -- The places of both ends between two exchanges, and the step of an exchange from each.
-use Rattle.std.proofs.Common.{◌≡◌, refl, ap, ◌∙◌, ℕ, zero, suc, Bool, true, false, List, [], ◌∷◌, ◌++◌, length, ◌+◌, nat_lt, take, drop, Option, Some, None, append_assoc, cond}
+use Rattle.std.proofs.Common.{◌≡◌, refl, sym, ap, ◌∙◌, ℕ, zero, suc, Bool, true, false, List, [], ◌∷◌, ◌++◌, length, ◌+◌, nat_lt, take, drop, Option, Some, None, append_assoc, cond}
 use Rattle.std.proofs.lemmas.Bool.{eq-eqb}
 use Rattle.t1_core.specs.declared.applet.Requests.{Requests}
 use Rattle.t1_core.specs.declared.block.Control.TheVariants.{Ifs, Wtx}
@@ -15,7 +15,7 @@ use Rattle.t1_core.specs.declared.terminal.Out.TheVariants.{Own, Asks, Grants}
 use Rattle.t1_core.specs.declared.terminal.Phase.{Phase}
 use Rattle.t1_core.specs.declared.terminal.Phase.TheVariants.{Opening, Sending, Receiving, Over, GivenUp}
 use Rattle.t1_core.specs.Block.{Block, I, R, Request, Response, Arrival, Came, Bad, other, more, is_size}
-use Rattle.t1_core.specs.CardSide.{Card, Meaning, Turn, answers_with, card_damaged, request_of, carries_out, turn}
+use Rattle.t1_core.specs.CardSide.{card_takes, Card, Meaning, Turn, answers_with, card_damaged, request_of, carries_out, turn}
 use Rattle.t1_core.specs.TerminalSide.{Terminal, sends, takes, longest}
 use Rattle.t1_core.specs.World.{World, arrives, settled, next_command, exchange, exchanged}
 use Rattle.t1_core.proofs.Bits.{same_self, same_other, same_other_2, other_other}
@@ -182,6 +182,29 @@ card_in k (Grows rest size granted) =
 card_in k (Between got b bytes) = ([], b ∷ bytes, k.number, k.due, true, idle k)
 card_in k (Sent first got rest) =
     ([], rest, cond first (other k.number) k.number, other k.due, true, idle k)
+
+-- the terminal's block
+abbrev pub sent_at : Kept → Spot → BlockReason → Block
+sent_at k (Opens rest asks) why = Request (Ifs longest)
+sent_at k (Behind false collected rest answering) why = I k.number (more rest) k.field
+sent_at k (Waits rest n size true) why = Response (Wtx k.multiple)
+sent_at k (Grows rest size true) why = Response (Ifs size)
+sent_at k s why = R k.due why
+
+pub sends_it : (k : Kept) (s : Spot) (why : BlockReason) (tries extensions : ℕ)
+    → sends (terminal_at (out_at k s why) k s tries extensions) ≡ Some (sent_at k s why)
+sends_it k (Opens rest true) why tries extensions = refl
+sends_it k (Behind true collected rest answering) why tries extensions = refl
+sends_it k (Waits rest n size true) why tries extensions = refl
+sends_it k (Grows rest size true) why tries extensions = refl
+sends_it k (Sent true got rest) why tries extensions = refl
+sends_it k _ why tries extensions = refl
+
+-- the card's reply to a damaged block
+abbrev pub garble_at : Kept → Spot → Block
+garble_at k (Waits rest n size granted) = Request (Wtx k.multiple)
+garble_at k (Grows rest size granted) = Request (Ifs size)
+garble_at k s = R (card_in k s).2 Edc
 
 module _ (m : Meaning) (before : List (List ℕ)) where
   abbrev pub card_at : Kept → Spot → Card
@@ -442,110 +465,121 @@ module _ (m : Meaning) (before : List (List ℕ)) where
   turned k t up x = settled (world k (takes t (arrives up x.block)) x.card)
 
   -- the card sends its next request, or its response
-  answers_now : (out : Out) (up : Fate) (k : Kept) (rest : List ℕ) (n : ℕ) (size : Option ℕ)
-      (tries extensions : ℕ)
-      → turned k (terminal_at out k (Sent true [] rest) tries extensions) up
-      (answers_with (request_of (requests n k.multiple size))
+  answers_now : (k : Kept) (rest : List ℕ) (n : ℕ) (size : Option ℕ)
+      → answers_with (request_of (requests n k.multiple size))
       (record (card_at k (Sent true [] rest)) {
         next = k.due;
         answering = false;
         left = requests n k.multiple size;
-      }))
-      ≡ world_of (arrived out up k (starts rest n size) tries extensions)
-  answers_now out up k rest (suc n) size = ups NoError out up k (Waits rest n size false)
-  answers_now out up k rest zero (Some size) = ups NoError out up k (Grows rest size false)
-  answers_now out up k rest zero None = ups NoError out up k (Sent true [] rest)
+      })
+      ≡ turn (card_at k (starts rest n size)) (reply_of NoError k (starts rest n size))
+  answers_now k rest (suc n) size = refl
+  answers_now k rest zero (Some size) = refl
+  answers_now k rest zero None = refl
+
+  -- the card's turn, if the terminal's block arrives
+  pub takes_it : (k : Kept) (s : Spot) (why : BlockReason) → (error : BlockReason)
+      × (card_takes m (sent_at k s why) (card_at k s)
+      ≡ turn (card_at (heard k s).0 (heard k s).1) (reply_of error (heard k s).0 (heard k s).1))
+  takes_it k (Opens rest asks) why = (NoError, refl)
+  takes_it k (Behind true collected rest answering) why = (Other, rw (same_self k.due) refl)
+  takes_it k (Behind false collected [] answering) why =
+      let done : List (List ℕ) = k.done ++ (collected ++ k.field) ∷ [] in (
+        NoError,
+        rw (same_self k.number)
+            (ap (carries_out m (card_at k (Behind false collected [] answering)))
+            (append_assoc before k.done ((collected ++ k.field) ∷ []))
+            ∙ answers_now (runs k done) (drop k.ifsd (m.does (before ++ done)))
+            (m.asks (before ++ done)).extensions (m.asks (before ++ done)).size),
+      )
+  takes_it k (Behind false collected (b ∷ bytes) answering) why =
+      (NoError, rw (same_self k.number) refl)
+  takes_it k (Taken collected b bytes) why = (Other, rw (same_self k.due) refl)
+  takes_it k (Waits rest n size true) why =
+      (NoError, rw (eq-eqb k.multiple k.multiple refl) (answers_now k rest n size))
+  takes_it k (Waits rest n size false) why = (NoError, refl)
+  takes_it k (Grows rest size true) why = (NoError, rw (eq-eqb size size refl) refl)
+  takes_it k (Grows rest size false) why = (NoError, refl)
+  takes_it k (Between got b bytes) why = (NoError, rw (same_self k.due) refl)
+  takes_it k (Sent true got rest) why =
+      (NoError, rw (same_other_2 k.due) (rw (other_other k.due) refl))
+  takes_it k (Sent false got rest) why =
+      (NoError, rw (same_other_2 k.due) (rw (other_other k.due) refl))
+
+  -- and if it is damaged
+  pub garbles_it : (k : Kept) (s : Spot) → card_damaged Edc (card_at k s) ≡ turn (card_at k s) (garble_at k s)
+  garbles_it k (Waits rest n size granted) = refl
+  garbles_it k (Grows rest size granted) = refl
+  garbles_it k _ = refl
+
+  starts_waiting : (out : Out) (k : Kept) (rest : List ℕ) (n : ℕ) (size : Option ℕ)
+      (tries extensions : ℕ) → terminal_at out k (starts rest n size) tries extensions
+      ≡ terminal_at out k (Waits rest n size false) tries extensions
+  starts_waiting out k rest (suc n) size tries extensions = refl
+  starts_waiting out k rest zero (Some size) tries extensions = refl
+  starts_waiting out k rest zero None tries extensions = refl
+
+  -- the terminal does not know of it
+  unaware : (out : Out) (k : Kept) (s : Spot) (tries extensions : ℕ)
+      → world (heard k s).0 (terminal_at out (heard k s).0 (heard k s).1 tries extensions)
+      ≡ world k (terminal_at out k s tries extensions)
+  unaware out k (Behind false collected [] answering) tries extensions =
+      let done : List (List ℕ) = k.done ++ (collected ++ k.field) ∷ [] in
+      ap (world k) (starts_waiting out (runs k done) (drop k.ifsd (m.does (before ++ done)))
+      (m.asks (before ++ done)).extensions (m.asks (before ++ done)).size tries extensions)
+  unaware out k (Behind false collected (b ∷ bytes) answering) tries extensions = refl
+  unaware out k (Waits rest n size true) tries extensions =
+      ap (world k) (starts_waiting out k rest n size tries extensions)
+  unaware out k (Grows rest size true) tries extensions = refl
+  unaware out k _ tries extensions = refl
 
   abbrev After : Fate → Fate → Place → World
   After down up p = exchange m (record { down = down; up = up }) (world_of p)
-
-  runs_now : (up : Fate) (k : Kept) (collected : List ℕ) (answering : Bool) (tries extensions : ℕ)
-      (why : BlockReason)
-      → let p : Place = Going k (Behind false collected [] answering) why tries extensions in
-      After Delivers up p ≡ world_of (step Delivers up p)
-  runs_now up k collected answering tries extensions why =
-      let s : Spot = Behind false collected [] answering in
-      let done : List (List ℕ) = k.done ++ (collected ++ k.field) ∷ [] in
-      let after : List (List ℕ) → World =
-      λ ran. turned k (terminal_at Own k s tries extensions) up (carries_out m (card_at k s) ran) in
-      rw (same_self k.number) (
-      ap after (append_assoc before k.done ((collected ++ k.field) ∷ []))
-      ∙ answers_now Own up (runs k done) (drop k.ifsd (m.does (before ++ done)))
-      (m.asks (before ++ done)).extensions (m.asks (before ++ done)).size tries extensions)
-
-  sends_some : (k : Kept) (s : Spot) (why : BlockReason) (tries extensions : ℕ)
-      → (b : Block) × (sends (terminal_at (out_at k s why) k s tries extensions) ≡ Some b)
-  sends_some k (Opens rest true) why tries extensions = (_, refl)
-  sends_some k (Behind true collected rest answering) why tries extensions = (_, refl)
-  sends_some k (Waits rest n size true) why tries extensions = (_, refl)
-  sends_some k (Grows rest size true) why tries extensions = (_, refl)
-  sends_some k (Sent true got rest) why tries extensions = (_, refl)
-  sends_some k _ why tries extensions = (_, refl)
 
   lost : (up : Fate) (k : Kept) (s : Spot) (why : BlockReason) (tries extensions : ℕ)
       → After Loses up (Going k s why tries extensions)
       ≡ world_of (misses Other (out_at k s why) k s tries extensions)
   lost up k s why tries extensions =
       ap (exchanged m (record { down = Loses; up = up })
-      (world_at (out_at k s why) k s tries extensions)) (sends_some k s why tries extensions).1
+      (world_at (out_at k s why) k s tries extensions)) (sends_it k s why tries extensions)
       ∙ missed Other (out_at k s why) k tries extensions s
 
-  -- the card replies to a damaged block with this one
-  garbles : (up : Fate) (k : Kept) (s : Spot) (why : BlockReason) (tries extensions : ℕ) (b : Block)
-      → card_damaged Edc (card_at k s) ≡ turn (card_at k s) b
+  -- the card replies to a damaged block
+  garbles : (up : Fate) (k : Kept) (s : Spot) (why : BlockReason) (tries extensions : ℕ)
       → After Damages up (Going k s why tries extensions)
-      ≡ took (out_at k s why) k s tries extensions (arrives up (Some b))
-  garbles up k s why tries extensions b e =
+      ≡ took (out_at k s why) k s tries extensions (arrives up (Some (garble_at k s)))
+  garbles up k s why tries extensions =
       let w : World = world_at (out_at k s why) k s tries extensions in
-      ap (exchanged m (record { down = Damages; up = up }) w)
-      (sends_some k s why tries extensions).1
-      ∙ ap (turned k w.terminal up) e
+      ap (exchanged m (record { down = Damages; up = up }) w) (sends_it k s why tries extensions)
+      ∙ ap (turned k w.terminal up) (garbles_it k s)
 
   pub is_step : (down up : Fate) (p : Place) → After down up p ≡ world_of (step down up p)
   is_step down up (Given_up w cause) = refl
   is_step down up (Finished w) = refl
-  is_step Delivers up (Going k (Opens rest true) why tries extensions) =
-      ups NoError (Asks why) up (record k { ifsd = longest }) (Opens rest true) tries extensions
-  is_step Delivers up (Going k (Behind true collected rest answering) why tries extensions) =
-      rw (same_self k.due) (ups Other (Asks why) up k (Behind true collected rest answering) tries
-      extensions)
-  is_step Delivers up (Going k (Behind false collected [] answering) why tries extensions) =
-      runs_now up k collected answering tries extensions why
-  is_step Delivers up (Going k (Behind false collected (b ∷ bytes) answering) why tries extensions)
-      = rw (same_self k.number) (ups NoError Own up (record k { last = [] })
-      (Taken (collected ++ k.field) b bytes) tries extensions)
-  is_step Delivers up (Going k (Taken collected b bytes) why tries extensions) =
-      rw (same_self k.due) (ups Other (Asks why) up k (Taken collected b bytes) tries extensions)
-  is_step Delivers up (Going k (Waits rest n size true) why tries extensions) =
-      rw (eq-eqb k.multiple k.multiple refl)
-      (answers_now (Grants (Wtx k.multiple)) up k rest n size tries extensions)
-  is_step Delivers up (Going k (Grows rest size true) why tries extensions) =
-      rw (eq-eqb size size refl)
-      (ups NoError (Grants (Ifs size)) up k (Sent true [] rest) tries extensions)
-  is_step Delivers up (Going k (Between got b bytes) why tries extensions) =
-      rw (same_self k.due) (ups NoError (Asks why) up (record k { last = take k.ifsd (b ∷ bytes) })
-      (Sent false got (drop k.ifsd (b ∷ bytes))) tries extensions)
-  is_step Delivers up (Going k (Sent true got rest) why tries extensions) =
-      rw (same_other_2 k.due) (rw (other_other k.due)
-      (ups NoError (Asks why) up k (Sent true got rest) tries extensions))
-  is_step Delivers up (Going k (Sent false got rest) why tries extensions) =
-      rw (same_other_2 k.due) (rw (other_other k.due)
-      (ups NoError (Asks why) up k (Sent false got rest) tries extensions))
   is_step Delivers up (Going k s why tries extensions) =
-      ups NoError (out_at k s why) up (heard k s).0 (heard k s).1 tries extensions
+      let takes_so = takes_it k s why in
+      let w : World = world_at (out_at k s why) k s tries extensions in
+      let now : Card = card_at (heard k s).0 (heard k s).1 in
+      let reply : Block = reply_of takes_so.0 (heard k s).0 (heard k s).1 in
+      ap (exchanged m (record { down = Delivers; up = up }) w) (sends_it k s why tries extensions)
+      ∙ ap (turned k w.terminal up) takes_so.1
+      ∙ ap (λ (of : Card → World). let v : World = of now in
+      settled (record v { terminal = takes v.terminal (arrives up (Some reply)) }))
+      (sym (unaware (out_at k s why) k s tries extensions))
+      ∙ ups takes_so.0 (out_at k s why) up (heard k s).0 (heard k s).1 tries extensions
   is_step Damages up (Going k (Opens rest asks) why tries extensions) =
-      garbles up k (Opens rest asks) why tries extensions _ refl
+      garbles up k (Opens rest asks) why tries extensions
       ∙ unread (out_of why asks) up k (Opens rest asks) tries extensions k.number refl
   is_step Damages up (Going k (Between got b bytes) why tries extensions) =
-      garbles up k (Between got b bytes) why tries extensions _ refl
+      garbles up k (Between got b bytes) why tries extensions
       ∙ unread (Asks why) up k (Between got b bytes) tries extensions k.number refl
   is_step Damages up (Going k (Sent true got rest) why tries extensions) =
-      garbles up k (Sent true got rest) why tries extensions _ refl
+      garbles up k (Sent true got rest) why tries extensions
       ∙ unread (Asks why) up k (Sent true got rest) tries extensions (other k.number)
       (rw (same_other k.number) refl)
   is_step Damages up (Going k (Sent false got rest) why tries extensions) =
-      garbles up k (Sent false got rest) why tries extensions _ refl
+      garbles up k (Sent false got rest) why tries extensions
       ∙ unread (Asks why) up k (Sent false got rest) tries extensions k.number refl
   is_step Damages up (Going k s why tries extensions) =
-      garbles up k s why tries extensions _ refl ∙ ups Edc (out_at k s why) up k s tries extensions
+      garbles up k s why tries extensions ∙ ups Edc (out_at k s why) up k s tries extensions
   is_step Loses up (Going k s why tries extensions) = lost up k s why tries extensions

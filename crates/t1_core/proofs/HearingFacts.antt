@@ -1,7 +1,8 @@
 -- The items that a tap gives are those of the bytes that it has heard.
-use Rattle.std.proofs.Common.{arith, ◌≡◌, refl, sym, ap, subst, ◌∙◌, ℕ, zero, suc, ◌+◌, ◌<◌, ◌≤◌, ◌⊎◌, inl, inr, Bool, true, false, List, [], ◌∷◌, ◌++◌, length, take, append_assoc, append-nil, length-append, nat_lt, slice_index}
+use Rattle.std.proofs.Common.{arith, ◌≡◌, refl, sym, ap, subst, ◌∙◌, ℕ, zero, suc, ◌+◌, ◌<◌, ◌≤◌, ◌⊎◌, inl, inr, Bool, true, false, List, [], ◌∷◌, ◌++◌, length, take, drop, append_assoc, append-nil, length-append, nat_lt, slice_index}
 use Rattle.std.proofs.lemmas.Grind.{flat_map-append}
-use Rattle.std.proofs.lemmas.List.{append_cancel_left, map-append, take-append-le, take_all}
+use Rattle.std.proofs.lemmas.Bool.{cases_order}
+use Rattle.std.proofs.lemmas.List.{append_cancel_left, length-drop, length-map, map-append, take-append-le, take_all}
 use Rattle.std.specs.List.{flat_map}
 use Rattle.t1_core.specs.declared.reading.End.{End}
 use Rattle.t1_core.specs.declared.reading.End.TheVariants.{Terminal, Card}
@@ -11,7 +12,6 @@ use Rattle.t1_core.specs.Block.{Block, more}
 use Rattle.t1_core.specs.Hearing.{Heard, Item, IsItem, AreItems, IsOther, Ear, HasHeard, after_items, given, goes_on, heard_of, hears, hears_all, hears_on, stops, goes_on_from, hears_next, is_cut, item_with, sent_by}
 use Rattle.t1_core.specs.Items.{Valid, Cut, found_in, is_complete}
 use Rattle.t1_core.specs.Reading.{fresh, peer, reads}
-use Rattle.std.proofs.Math.Seq.{take-append_seam}
 use Rattle.std.proofs.Math.Seq.{take-length}
 use Rattle.t1_core.specs.Hearing.{IsNext}
 
@@ -227,6 +227,15 @@ module _ (heard : List Heard) (items : List Item) where
 
 -- ---- a reset
 
+begun : (e : Ear) → e.part ≡ [] → e.held ≡ [] → e.reading ≡ fresh → HasHeard [] [] e
+begun e part held reading = record {
+  all = rw part refl;
+  divided = tt;
+  incomplete = rw part (none_is_short e.edc);
+  none_held = held;
+  read = reading;
+}
+
 nothing : (bytes : List ℕ) → more bytes ≡ false → bytes ≡ []
 nothing [] none = refl
 nothing (b ∷ bytes) none = absurd (cc)
@@ -234,21 +243,9 @@ nothing (b ∷ bytes) none = absurd (cc)
 stopped_at : (g : Ear) → is_complete g.edc g.part ≡ false → g.held ≡ [] → (v : Bool)
     → more g.part ≡ v → HasHeard [] [] (goes_on_from v (record g { ended = v; reading = fresh }))
 stopped_at g incomplete none_held true some =
-    rw (none_held, incomplete) (record {
-      all = refl;
-      divided = tt;
-      incomplete = none_is_short g.edc;
-      none_held = refl;
-      read = refl;
-    })
-stopped_at g incomplete none_held false none =
-    rw (nothing g.part none) (record {
-      all = refl;
-      divided = tt;
-      incomplete = none_is_short g.edc;
-      none_held = none_held;
-      read = refl;
-    })
+    begun (goes_on_from true (record g { ended = true; reading = fresh })) none_held refl
+    (rw incomplete refl)
+stopped_at g incomplete none_held false none = begun _ (nothing g.part none) none_held refl
 
 pub stopped : (heard : List Heard) (items : List Item) (e now : Ear) → now ≡ stops e
     → HasHeard heard items (goes_on e) → HasHeard [] [] (goes_on now)
@@ -260,13 +257,6 @@ stopped heard items e now is h =
 
 -- ---- a whole valid block
 
--- two runs of an end that begin the same bytes
-data Compared (xs ys : List ℕ) (from : End) (tail : List Heard) : Type 0 where
-  Same : xs ≡ ys → Compared xs ys from tail
-  Shorter : (b : ℕ) (zs : List ℕ) (later : List Heard) → ys ≡ xs ++ b ∷ zs
-      → tail ≡ (from, b) ∷ later → Compared xs ys from tail
-  Longer : (b : ℕ) (zs : List ℕ) → xs ≡ ys ++ b ∷ zs → Compared xs ys from tail
-
 abbrev head_of : Heard → List Heard → Heard
 head_of c [] = c
 head_of c (d ∷ ds) = d
@@ -275,23 +265,18 @@ abbrev tail_of : List Heard → List Heard
 tail_of [] = []
 tail_of (d ∷ ds) = ds
 
-compared : (f g : End) (xs ys : List ℕ) (tail more : List Heard)
-    → sent_by f xs ++ tail ≡ sent_by g ys ++ more → Compared xs ys g tail
-compared f g [] [] tail more is = Same refl
-compared f g [] (b ∷ ys) tail more is = Shorter b ys (sent_by g ys ++ more) refl is
-compared f g (a ∷ xs) [] tail more is = Longer a xs refl
-compared f g (a ∷ xs) (b ∷ ys) tail more is =
-    one (compared f g xs ys tail more (ap tail_of is)) where
-      first : a ≡ b
-      first = ap (λ (cs : List Heard). (head_of (f, a) cs).1) is
-
-      one : Compared xs ys g tail → Compared (a ∷ xs) (b ∷ ys) g tail
-      one (Same same) = Same (ap (λ c. c ∷ xs) first ∙ ap (λ zs. b ∷ zs) same)
-      one (Shorter c zs later longer next) =
-          Shorter c zs later (ap (λ zs. b ∷ zs) longer ∙ ap (λ d. d ∷ (xs ++ c ∷ zs)) (sym first))
-          next
-      one (Longer c zs longer) =
-          Longer c zs (ap (λ d. d ∷ xs) first ∙ ap (λ zs. b ∷ zs) longer)
+-- of two runs that begin the same bytes, the shorter one is the first bytes of the other
+front_of : (f g : End) (xs ys : List ℕ) (tail more : List Heard)
+    → sent_by f xs ++ tail ≡ sent_by g ys ++ more → length xs ≤ length ys
+    → (take (length xs) ys ≡ xs) × (tail ≡ sent_by g (drop (length xs) ys) ++ more)
+front_of f g [] ys tail more is few = (refl, is)
+front_of f g (a ∷ xs) [] tail more is few = absurd (omega (arith, few))
+front_of f g (a ∷ xs) (b ∷ ys) tail more is few =
+    let rest = front_of f g xs ys tail more (ap tail_of is) (omega (arith, few)) in (
+      ap (λ zs. b ∷ zs) rest.0
+          ∙ ap (λ c. c ∷ xs) (sym (ap (λ (cs : List Heard). (head_of (f, a) cs).1) is)),
+      rest.1,
+    )
 
 same_from : (f g : End) (xs ys : List ℕ) (tail more : List Heard) → 0 < length xs
     → 0 < length ys → sent_by f xs ++ tail ≡ sent_by g ys ++ more → f ≡ g
@@ -299,13 +284,6 @@ same_from f g [] ys tail more some any is = absurd (omega (arith, some))
 same_from f g xs [] tail more some any is = absurd (omega (arith, any))
 same_from f g (a ∷ xs) (b ∷ ys) tail more some any is =
     ap (λ (cs : List Heard). (head_of (f, a) cs).0) is
-
--- the shorter run is the first bytes of the longer one
-front_of : (xs zs : List ℕ) (b : ℕ) → (take (length xs) (xs ++ b ∷ zs) ≡ xs)
-    × (length xs < length (xs ++ b ∷ zs))
-front_of xs zs b =
-    let long = length-append xs (b ∷ zs) in
-    (take-append_seam xs (b ∷ zs), omega (arith, long))
 
 valid_is_complete : (edc : Edc) (bytes : List ℕ) (b : Block) → found_in edc bytes ≡ Valid b
     → is_complete edc bytes ≡ true
@@ -315,9 +293,12 @@ valid_is_complete edc bytes b is = by (is_complete edc bytes) refl where
   by false e =
       absurd (let cut : found_in edc bytes ≡ Cut = rw e refl in (let no = sym cut ∙ is in cc))
 
-not_own : (from : End) → from ≡ peer from → ⊥
-not_own Terminal is = cc
-not_own Card is = cc
+-- what an end sends does not cut off its own item
+not_own : (from : End) (bytes : List ℕ) (more : List Heard) → 0 < length bytes
+    → IsOther from (sent_by from bytes ++ more) → ⊥
+not_own from [] more some is = omega (arith, some)
+not_own Terminal (b ∷ bytes) more some is = cc
+not_own Card (b ∷ bytes) more some is = cc
 
 complete_is_some : (edc : Edc) (bytes : List ℕ) → is_complete edc bytes ≡ true → 0 < length bytes
 complete_is_some edc [] is = absurd (cc)
@@ -340,54 +321,52 @@ module _ (heard more : List Heard) (xs ys : List Item) (e : Ear) (from : End) (b
   -- no first part of these is the block
   too_short : (part : List ℕ) → is_complete e.edc (take (length bytes) part) ≡ false
       → take (length bytes) part ≡ bytes → ⊥
-  too_short part none is = let no = sym (ap (is_complete e.edc) is) ∙ none in
+  too_short part none is = let not_so = sym (ap (is_complete e.edc) is) ∙ none in
       let sure = whole in cc
 
-  no_rest : (part : List ℕ) (end : End) → ((k : ℕ) → is_complete e.edc (take k part) ≡ false)
-      → Compared part bytes from [] → ⊥
-  no_rest part end none (Same same) =
-      too_short part (none (length bytes))
-      (ap (λ bs. take (length bytes) bs) same ∙ take-length bytes)
-  no_rest part end none (Shorter c zs later longer next) = cc
-  no_rest part end none (Longer c zs longer) =
-      too_short part (none (length bytes))
-      (ap (λ bs. take (length bytes) bs) longer ∙ (front_of bytes zs c).0)
-
-  first_is : (r : Reading) (i : Item) (is : List Item) (tail : List Heard)
-      → IsItem e.edc r i tail → i.from ≡ from → Compared i.bytes bytes from tail
-      → IsNext (i ∷ is) from bytes b
-  first_is r i is tail item end (Same same) =
-      (end, same, ap (λ (j : Item). j.found) item.is ∙ ap (found_in e.edc) same ∙ valid)
-  first_is r i is tail item end (Longer c zs longer) =
-      let front = front_of bytes zs c in
-      let shorter : length bytes < length i.bytes =
-      subst (λ bs. length bytes < length bs) (sym longer) front.1 in
-      absurd (too_short i.bytes (item.not_sooner (length bytes) shorter)
-      (ap (λ bs. take (length bytes) bs) longer ∙ front.0))
-  first_is r i is tail item end (Shorter c zs later longer next) = absurd (no item.ends) where
-    front : (take (length i.bytes) bytes ≡ i.bytes) × (length i.bytes < length bytes)
-    front = subst (λ bs. (take (length i.bytes) bs ≡ i.bytes) × (length i.bytes < length bs))
-        (sym longer) (front_of i.bytes zs c)
-
-    no : (is_complete e.edc i.bytes ≡ true) ⊎ IsOther i.from tail → ⊥
-    no (inl sure) =
-        let none = sym (ap (is_complete e.edc) front.0) ∙ none_sooner (length i.bytes) front.1 in cc
-    no (inr other) =
-        not_own i.from (end ∙ subst (IsOther i.from) next other)
+  first_is : (r : Reading) (i : Item) (tail : List Heard) → IsItem e.edc r i tail → i.from ≡ from
+      → sent_by i.from i.bytes ++ tail ≡ sent_by from bytes ++ more → i.bytes ≡ bytes
+  first_is r i tail item end is =
+      elim (cases_order (length i.bytes) (length bytes)) [
+        | inl same ↦ sym (front_of i.from from i.bytes bytes tail more is (omega (arith, same))).0
+            ∙ take_all (length i.bytes) bytes (omega (arith, same))
+        | inr (inl short) ↦ absurd (too_soon short item.ends)
+        | inr (inr long) ↦ absurd (too_short i.bytes (item.not_sooner (length bytes) long)
+            (front_of from i.from bytes i.bytes more tail (sym is) (omega (arith, long))).0)
+      ] where
+        too_soon : length i.bytes < length bytes → (is_complete e.edc i.bytes ≡ true)
+            ⊎ IsOther i.from tail → ⊥
+        too_soon short ends =
+            let front = front_of i.from from i.bytes bytes tail more is (omega (arith, short)) in
+            let left = length-drop (length i.bytes) bytes in
+            elim ends [
+              | inl sure ↦ let not_so = sym (ap (is_complete e.edc) front.0)
+                  ∙ none_sooner (length i.bytes) short in cc
+              | inr other ↦ not_own i.from (drop (length i.bytes) bytes) more
+                  (omega (arith, left, short))
+                  (subst (IsOther i.from) (front.1 ∙ ap (λ f. sent_by f (drop (length i.bytes) bytes)
+                  ++ more) (sym end)) other)
+            ]
 
   at : (r : Reading) (items : List Item) → AreItems e.edc r items (sent_by e.from e.part)
       → flat_map heard_of items ++ sent_by e.from e.part ≡ sent_by from bytes ++ more
       → IsNext items from bytes b
-  at r [] are is = absurd (no_rest e.part e.from h.incomplete
-      (compared e.from from e.part bytes [] more (append-nil (sent_by e.from e.part) ∙ is)))
+  at r [] are is =
+      let long = ap length is in
+      let all = length-append (sent_by from bytes) more in
+      let part = length-map {B = Heard} e.part (λ c. (e.from, c)) in
+      let own = length-map {B = Heard} bytes (λ c. (from, c)) in
+      absurd (too_short e.part (h.incomplete (length bytes))
+      (front_of from e.from bytes e.part more [] (sym (append-nil (sent_by e.from e.part) ∙ is))
+      (omega (arith, long, all, part, own))).0)
   at r (i ∷ items) are is =
       let tail : List Heard = flat_map heard_of items ++ sent_by e.from e.part in
       let both : heard_of i ++ tail ≡ sent_by from bytes ++ more =
       sym (append_assoc (heard_of i) (flat_map heard_of items) (sent_by e.from e.part)) ∙ is in
-      first_is r i items tail are.0
-      (same_from i.from from i.bytes bytes tail more are.0.some
-      (complete_is_some e.edc bytes whole) both)
-      (compared i.from from i.bytes bytes tail more both)
+      let end = same_from i.from from i.bytes bytes tail more are.0.some
+      (complete_is_some e.edc bytes whole) both in
+      let same = first_is r i tail are.0 end both in
+      (end, same, ap (λ (j : Item). j.found) are.0.is ∙ ap (found_in e.edc) same ∙ valid)
 
   pub whole_block : IsNext ys from bytes b
   whole_block =

@@ -3,7 +3,7 @@ use Rattle.std.proofs.Common.{◌≡◌, ◌≢◌, refl, sym, ap, subst, ◌∙
 use Rattle.std.proofs.lemmas.Bool.{eq-eqb}
 use Rattle.std.proofs.Math.Seq.{take-append_seam, take-length}
 use Rattle.std.specs.List.{AllByRecursion}
-use Rattle.t1_core.specs.declared.block.Control.TheVariants.{Ifs, Wtx}
+use Rattle.t1_core.specs.declared.block.Control.TheVariants.{Abort, Ifs, Resynch, Wtx}
 use Rattle.t1_core.specs.declared.gathered.Progress.{Progress}
 use Rattle.t1_core.specs.declared.gathered.Progress.TheVariants.{Nothing, Begun, Whole, Unknown}
 use Rattle.t1_core.specs.declared.pcb.BlockReason.{BlockReason}
@@ -105,6 +105,9 @@ IsPlain _ = ⊥
 -- a block without a field changes at most whether the card has asked for one again
 pub plain : (Q : Reading → Story → Type 0) (r : Reading) (s : Story) (from : End) (b : Block)
     → IsPlain b → Here Q r s → One (Here Q) r s from b
+plain Q r s Card (Response Resynch) is h = absurd is
+plain Q r s from (Response Resynch) is h = absurd is
+plain Q r s from (Response Abort) is h = absurd is
 plain Q r s from (I number more field) is h = absurd is
 plain Q r s from (R number why) is h =
     by from r.missed (cond (same number (numbers_of (peer from) r).next)
@@ -120,13 +123,7 @@ plain Q r s from (R number why) is h =
       by Terminal false false again was = (refl, subst (Here Q r) (sym (stays s)) h)
       by Card false true again was = (refl, subst (Here Q r) (sym (stays s)) h)
       by Card false false again was = (refl, subst (Here Q r) (sym (stays s)) h)
-plain Q r s Terminal (Request control) is h = (refl, subst (Here Q r) (sym (stays s)) h)
-plain Q r s Card (Request control) is h = (refl, subst (Here Q r) (sym (stays s)) h)
-plain Q r s Terminal (Response (Ifs size)) is h = (refl, subst (Here Q r) (sym (stays s)) h)
-plain Q r s Card (Response (Ifs size)) is h = (refl, subst (Here Q r) (sym (stays s)) h)
-plain Q r s Terminal (Response (Wtx multiple)) is h = (refl, subst (Here Q r) (sym (stays s)) h)
-plain Q r s Card (Response (Wtx multiple)) is h = (refl, subst (Here Q r) (sym (stays s)) h)
-plain Q r s from _ is h = absurd is
+plain Q r s from _ is h = (refl, subst (Here Q r) (sym (stays s)) h)
 
 -- the block is read so, and told so
 one : (P : Reading → Story → Type 0) (r now : Reading) (s told : Story) (from : End) (b : Block)
@@ -137,15 +134,18 @@ one P r now s told from b role is known so p =
     (known, subst (P now) (sym so) p)
 
 -- the card asks for the terminal's field again
-pub asked : (n : Bool) {cn more : Bool} {rest done : List Message} {front field : List ℕ} (r : Reading)
-    (s : Story) (why : BlockReason) → Here (New Terminal (other n) cn rest done front field more) r s
+pub asked : (n : Bool) {cn more : Bool} {rest done : List Message} {front field : List ℕ}
+    (r : Reading) (s : Story) (why : BlockReason)
+    → Here (New Terminal (other n) cn rest done front field more) r s
     → One (λ r' s'. Here (New Terminal (other n) cn rest done front field more) r' s'
     × (r'.again ≡ true)) r s Card (R n why)
 asked n {cn} {more} {rest} {done} {front} {field} r s why h =
     one (λ r' s'. Here (New Terminal (other n) cn rest done front field more) r' s'
-    × (r'.again ≡ true)) r (record r { again = true }) s s Card (R n why) role.Asks is refl (stays s)
+    × (r'.again ≡ true)) r (record r { again = true }) s s Card (R n why) role.Asks is refl
+    (stays s)
     (h, refl) where
-      so : (again more : Bool) → cond again true (is_again false more Card (cond more Terminal Card))
+      so : (again more : Bool) → cond again true
+          (is_again false more Card (cond more Terminal Card))
           ≡ true
       so true more = refl
       so false true = refl
@@ -206,10 +206,12 @@ pub new_field : (from : End) (n more : Bool) (field : List ℕ) {peers : Bool}
     → Here (Level from n peers rest done front) r s
     → One (Here (New from (other n) peers rest done front field more)) r s from (I n more field)
 new_field from n more field {peers} {rest} {done} {front} r s h =
-    sends from n peers more rest (messages s) done front field (role.Field (not r.within) (not more))
+    sends from n peers more rest (messages s) done front field
+    (role.Field (not r.within) (not more))
     r s h.0 h.1.peers_is h.1.told (is from h.1.own_is h.1.turn_is) refl
     (so r.within s more h.1.newest) where
-      is : (e : End) → (numbers_of e (bare r)).next ≡ n → r.turn ≡ e → reads r e (Valid (I n more field))
+      is : (e : End) → (numbers_of e (bare r)).next ≡ n → r.turn ≡ e
+          → reads r e (Valid (I n more field))
           ≡ (role.Field (not r.within) (not more), goes (sent r e n (more, length field)) e more)
       is Terminal own turn = rw (h.0, own, same_self n, turn) refl
       is Card own turn = rw (h.0, own, same_self n, turn) refl
@@ -222,7 +224,8 @@ new_field from n more field {peers} {rest} {done} {front} r s h =
       so false s more h = rw h.1 refl
 
 -- an end sends its newest field again, and may cut it
-sends_again : (from : End) (n more : Bool) (f : List ℕ) {peers was : Bool} {rest done : List Message}
+sends_again : (from : End) (n more : Bool) (f : List ℕ) {peers was : Bool}
+    {rest done : List Message}
     {front field : List ℕ} (r : Reading) (s : Story)
     → Here (New from (other n) peers rest done front field was) r s
     → reads r from (Valid (I n more f))

@@ -21,6 +21,7 @@ use Rattle.t1_core.specs.declared.terminal.Phase.TheVariants.{GivenUp, Over}
 use Rattle.t1_core.specs.declared.terminal.Out.{Out}
 use Rattle.t1_core.specs.declared.terminal.Out.TheVariants.{Asks}
 use Rattle.t1_core.specs.declared.terminal.Outcome.{Outcome}
+use Rattle.t1_core.specs.declared.terminal.Outcome.TheVariants.{NotCarriedOut}
 use Rattle.t1_core.specs.Block.{Block, I, R, Request, Response, is_size, more, other}
 use Rattle.t1_core.specs.CardSide.{Meaning, Turn, answers_with, card_damaged, card_takes, carries_out, request_of}
 use Rattle.t1_core.specs.Overhearing.{IsBegun, IsGiven, IsKnown, IsOverheard, Message, Passed, Story, blocks_in, messages, passed, passes, passes_both, tells_all, turns, untold}
@@ -191,7 +192,8 @@ module _ (m : Meaning) (before commands : List (List ℕ)) where
       new_field Card k.due (more rest) k.last r t (missed, h)
   replies_one e k (Sent first got rest) Terminal r t a (missed, inr h) =
       new_field Card k.due (more rest) k.last r t (missed, h)
-  replies_one e k (Sent first got rest) Card r t a (missed, inr h) = card_again k.due r t (missed, h)
+  replies_one e k (Sent first got rest) Card r t a (missed, inr h) = card_again k.due r t
+      (missed, h)
   replies_one e k (Between got b bytes) at r t a h = absurd a
   replies_one e k s at r t a h = plain (Mid k s at) r t Card (reply_of m before e k s) tt h
 
@@ -206,7 +208,8 @@ module _ (m : Meaning) (before commands : List (List ℕ)) where
       (Turns done) [] r t
   runs_at k collected r t h =
       let done : List (List ℕ) = k.done ++ (collected ++ k.field) ∷ [] in
-      it_ends _ _ r t h (ap (λ resp. t.given ++ (Terminal, collected ++ k.field) ∷ (Card, resp) ∷ [])
+      it_ends _ _ r t h (ap (λ resp. t.given ++ (Terminal, collected ++ k.field) ∷ (Card, resp) ∷
+      [])
       (take-append-drop k.ifsd (m.does (before ++ done)))
       ∙ ap (λ ts. ts ++ (Terminal, collected ++ k.field) ∷ (Card, m.does (before ++ done)) ∷ [])
       (sym (append-nil t.given) ∙ h.told)
@@ -225,7 +228,8 @@ module _ (m : Meaning) (before commands : List (List ℕ)) where
       starts_by (λ s. Received k s at r t) rest n size (λ n size. h) (λ size. h) (inl h)
   takes k (Grows rest size true) at r t h = inl h
   takes k (Between got b bytes) at r t h =
-      inl (subst (λ resp. Level Card k.due k.number ((Card, got ++ resp) ∷ []) (Turns k.done) got r t)
+      inl (subst (λ resp. Level Card k.due k.number ((Card, got ++ resp) ∷ []) (Turns k.done) got r
+      t)
       (sym (take-append-drop k.ifsd (b ∷ bytes))) h)
   takes k (Sent first got rest) at r t h = inr h
   takes k _ at r t h = h
@@ -233,20 +237,20 @@ module _ (m : Meaning) (before commands : List (List ℕ)) where
   -- ---- the claim
 
   -- the number of messages, in a dialogue where the card has carried out `ran`
-  abbrev Counts : End → World → (ran : List (List ℕ)) → ℕ → Type 0
-  Counts at w ran n = (2 * length w.answers ≤ n) × (n ≤ 2 * length w.answers + 2)
+  abbrev Counts : End → World → (ran : List (List ℕ)) → Outcome → ℕ → Type 0
+  Counts at w ran o n = (2 * length w.answers ≤ n) × (n ≤ 2 * length w.answers + 2)
       × (at ≡ Card → (2 * length ran ≤ n + 1) × (n ≤ 2 * length ran))
       × (at ≡ Terminal → w.terminal.phase ≢ GivenUp TooLong → n ≤ 2 * length w.answers + 1)
-      × (at ≡ Terminal → (cause : Cause) → w.terminal.phase ≡ GivenUp cause
-      → IsGiven (outcome_of w.terminal) (length w.answers) n)
+      × IsGiven o (length w.answers) n
 
-  claim_of : (at : End) (w : World) (ran done todo gives : List (List ℕ)) (s : Story)
-      → w.card.ran ≡ before ++ ran → done ++ todo ≡ commands
+  claim_of : (at : End) (w : World) (ran done todo gives : List (List ℕ)) (s : Story) (o : Outcome)
+      → Late at w o → w.card.ran ≡ before ++ ran → done ++ todo ≡ commands
       → messages s ++ replies gives ≡ Turns done
       → (s.now.progress ≡ Begun
       → IsBegun s.now (replies gives ++ turns m.does (before ++ done) todo))
-      → ((n : ℕ) → n + length (replies gives) ≡ 2 * length done → Counts at w ran n) → Claim at w s
-  claim_of at w ran done todo gives s ran_is all told begun counts =
+      → ((n : ℕ) → n + length (replies gives) ≡ 2 * length done → Counts at w ran o n)
+      → Claim at w s
+  claim_of at w ran done todo gives s o late ran_is all told begun counts =
       let later : List Message = turns m.does (before ++ done) todo in
       let count = counts (length (messages s)) (sym (length-append (messages s) (replies gives))
       ∙ ap length told ∙ turns_many m.does before done) in
@@ -262,7 +266,9 @@ module _ (m : Meaning) (before commands : List (List ℕ)) where
         ran_is = ran_is;
         at_card = count.2;
         at_terminal = count.3;
-        told = count.4;
+        told = λ terminal cause gone. subst (λ o. IsGiven o (length w.answers)
+            (length (messages s)))
+            (sym (late terminal cause gone)) count.4;
       }
 
   -- the next message begins with the bytes so far
@@ -270,8 +276,6 @@ module _ (m : Meaning) (before commands : List (List ℕ)) where
       × (replies (responds k s) ++ turns m.does (before ++ k.done)
       (sending m before commands k s ++ k.todo) ≡ (turn_in s, so_far s ++ bytes) ∷ later)
   upcoming k (Opens rest asks) = (_, _, refl)
-  upcoming k (Behind asks collected rest answering) = (_, _, refl)
-  upcoming k (Taken collected b bytes) = (_, _, refl)
   upcoming k _ = (_, _, refl)
 
   has_begun : (k : Kept) (s : Spot) (within : Bool) (g : Gathered)
@@ -289,19 +293,19 @@ module _ (m : Meaning) (before commands : List (List ℕ)) where
 
   -- `ran` are fewer if the card has not received the last field of a command that was heard
   claim_at : (at : End) (w : World) (k : Kept) (s : Spot) (ran : List (List ℕ)) (r : Reading)
-      (t : Story) → w.card.ran ≡ before ++ ran → w.answers ≡ k.answers
+      (t : Story) (o : Outcome) → Late at w o → w.card.ran ≡ before ++ ran → w.answers ≡ k.answers
       → (at ≡ Card → length ran ≡ length k.done)
       → AddsUp m before commands k.done k.todo k.answers (sending m before commands k s)
       (responds k s) → At k s r t
-      → ((n : ℕ) → n ≡ 2 * length w.answers + length (responds k s) → at ≡ Terminal
-      → (cause : Cause) → w.terminal.phase ≡ GivenUp cause
-      → IsGiven (outcome_of w.terminal) (length w.answers) n)
+      → ((n : ℕ) → n ≡ 2 * length w.answers + length (responds k s)
+      → IsGiven o (length w.answers) n)
       → Claim at w t
-  claim_at at w k s ran r t ran_is same_answers same_ran up h given =
+  claim_at at w k s ran r t o late ran_is same_answers same_ran up h given =
       let many = many m before commands up in
       let same = ap length same_answers in
       let few = few_replies k s in
-      claim_of at w ran k.done (sending m before commands k s ++ k.todo) (responds k s) t ran_is
+      claim_of at w ran k.done (sending m before commands k s ++ k.todo) (responds k s) t o late
+      ran_is
       up.whole h.told (has_begun k s r.within t.now h.newest) (λ n is. (
         omega (arith, many, same, is, few),
         omega (arith, many, same, is, few),
@@ -314,16 +318,16 @@ module _ (m : Meaning) (before commands : List (List ℕ)) where
       ))
 
   -- a response has ended
-  claim_ended : (at : End) (w : World) (done todo : List (List ℕ)) (t : Story)
-      → w.card.ran ≡ before ++ done → done ++ todo ≡ commands → messages t ++ [] ≡ Turns done
+  claim_ended : (at : End) (w : World) (done todo : List (List ℕ)) (t : Story) (o : Outcome)
+      → Late at w o → w.card.ran ≡ before ++ done → done ++ todo ≡ commands
+      → messages t ++ [] ≡ Turns done
       → t.now.progress ≢ Begun → length w.answers ≤ length done
       → length done ≤ length w.answers + 1
       → (at ≡ Terminal → w.terminal.phase ≢ GivenUp TooLong → length done ≤ length w.answers)
-      → ((n : ℕ) → n ≡ 2 * length done → at ≡ Terminal → (cause : Cause)
-      → w.terminal.phase ≡ GivenUp cause → IsGiven (outcome_of w.terminal) (length w.answers) n)
-      → Claim at w t
-  claim_ended at w done todo t ran_is all told idle least most heard given =
-      claim_of at w done done todo [] t ran_is all told (λ begun. absurd (idle begun)) (λ n is. (
+      → ((n : ℕ) → n ≡ 2 * length done → IsGiven o (length w.answers) n) → Claim at w t
+  claim_ended at w done todo t o late ran_is all told idle least most heard given =
+      claim_of at w done done todo [] t o late ran_is all told (λ begun. absurd (idle begun))
+      (λ n is. (
         omega (arith, is, least),
         omega (arith, is, most),
         (λ card. (omega (arith, is), omega (arith, is))),
@@ -340,26 +344,24 @@ module _ (m : Meaning) (before commands : List (List ℕ)) where
       → Claim Terminal w t
   claim_sent w k collected (b ∷ bytes) answering r t ran same late holds h =
       let s : Spot = Behind false collected (b ∷ bytes) answering in
-      claim_at Terminal w (heard m before k s).0 (heard m before k s).1 k.done r t ran same
+      claim_at Terminal w (heard m before k s).0 (heard m before k s).1 k.done r t _ late ran same
       (λ card. absurd (cc)) (heard_holds m before commands k s holds).0 (more_follows r t h)
-      (λ n is terminal cause gone. subst (λ o. IsGiven o (length w.answers) n)
-      (sym (late terminal cause gone)) (omega (arith, is)))
+      (λ n is. omega (arith, is))
   claim_sent w k collected [] answering r t ran same late holds h =
       let s : Spot = Behind false collected [] answering in
       let c : List ℕ = collected ++ k.field in
       let done : List (List ℕ) = k.done ++ c ∷ [] in
-      let next : Spot = (heard m before k s).1 in
       let now = runs_at k collected r t h in
       let up = (heard_holds m before commands k s holds).0 in
       let was = many m before commands holds.0 in
       let is_now = many m before commands up in
       let one = length-append k.done (c ∷ []) in
-      claim_at Terminal w (runs m before k done) next k.done r t ran same (λ card. absurd (cc)) up
+      claim_at Terminal w (runs m before k done) (heard m before k s).1 k.done r t _ late ran same
+      (λ card. absurd (cc)) up
       (starts_by (λ s. At (runs m before k done) s r t) (drop k.ifsd (m.does (before ++ done)))
       (m.asks (before ++ done)).extensions (m.asks (before ++ done)).size (λ n size. now)
       (λ size. now) now)
-      (λ n is terminal cause gone. subst (λ o. IsGiven o (length w.answers) n)
-      (sym (late terminal cause gone)) (omega (arith, is, was, is_now, one)))
+      (λ n is. omega (arith, is, was, is_now, one))
 
   -- the card's field was heard, and the terminal may not have received it
   replied : (k : Kept) (got : List ℕ) {own peers : Bool} (r : Reading) (t : Story)
@@ -391,22 +393,19 @@ module _ (m : Meaning) (before commands : List (List ℕ)) where
       → Ahead k (Sent first got rest) r t → Claim at w t
   claim_replied at w k first got (b ∷ bytes) r t ran same late unheard up h =
       claim_at at w (record (numbered first k) { due = other k.due })
-      (Between (got ++ k.last) b bytes) k.done r t ran same (λ card. refl)
+      (Between (got ++ k.last) b bytes) k.done r t _ late ran same (λ card. refl)
       (subst (λ resp. AddsUp m before commands k.done k.todo k.answers [] (resp ∷ []))
       (sym (append_assoc got k.last (b ∷ bytes))) up) (replies_more k got b bytes r t h)
-      (λ n is terminal cause gone. subst (λ o. IsGiven o (length w.answers) n)
-      (sym (late terminal cause gone)) (given_after got (length w.answers) n (omega (arith, is))))
+      (λ n is. given_after got (length w.answers) n (omega (arith, is)))
   claim_replied at w k first got [] r t ran same late unheard up h =
       let now = replied k got r t h in
       let many = many m before commands up in
       let answers = ap length same in
-      claim_ended at w k.done k.todo t ran up.whole now.told
+      claim_ended at w k.done k.todo t _ late ran up.whole now.told
       (idle_in r.within t.now h.within now.newest)
       (omega (arith, many, answers)) (omega (arith, many, answers))
       (λ terminal long. absurd (unheard terminal long))
-      (λ n is terminal cause gone. subst (λ o. IsGiven o (length w.answers) n)
-      (sym (late terminal cause gone))
-      (given_after got (length w.answers) n (omega (arith, is, many, answers))))
+      (λ n is. given_after got (length w.answers) n (omega (arith, is, many, answers)))
 
   given_at : (k : Kept) (s : Spot) (a n : ℕ) → IsReceived s → n ≡ 2 * a + length (responds k s)
       → IsGiven (outcome_with (terminal_in s).2 (terminal_in s).0 (terminal_in s).1) a n
@@ -422,15 +421,14 @@ module _ (m : Meaning) (before commands : List (List ℕ)) where
   claim_mid w k (Behind asks collected rest answering) Terminal r t ran same late holds h =
       claim_sent w k collected rest answering r t ran same late holds h
   claim_mid w k (Behind asks collected rest answering) Card r t ran same late holds h =
-      claim_at Card w k (Behind asks collected rest answering) k.done r t ran same (λ card. refl)
-      holds.0 h (λ n is terminal. absurd (cc))
+      claim_at Card w k (Behind asks collected rest answering) k.done r t NotCarriedOut
+      (λ terminal. absurd (cc)) ran same (λ card. refl) holds.0 h (λ n is. omega (arith, is))
   claim_mid w k (Sent first got rest) Card r t ran same late holds h =
       claim_replied Card w k first got rest r t ran same (λ terminal. absurd (cc))
       (λ terminal. absurd (cc)) holds.0 h
   claim_mid w k s at r t ran same late holds h =
-      claim_at at w k s k.done r t ran same (λ card. refl) holds.0 h
-      (λ n is terminal cause gone. subst (λ o. IsGiven o (length w.answers) n)
-      (sym (late terminal cause gone)) (given_at k s (length w.answers) n tt is))
+      claim_at at w k s k.done r t _ late ran same (λ card. refl) holds.0 h
+      (λ n is. given_at k s (length w.answers) n tt is)
 
   -- without a fault
   claim_inv : (w : World) (k : Kept) (s : Spot) (at : End) (r : Reading) (t : Story)
@@ -438,8 +436,9 @@ module _ (m : Meaning) (before commands : List (List ℕ)) where
       → ((cause : Cause) → w.terminal.phase ≢ GivenUp cause)
       → Holds m before commands k s → Inv k s at r t → Claim at w t
   claim_inv w k (Behind false collected rest answering) Terminal r t ran same none holds (inl h) =
-      claim_at Terminal w k (Behind false collected rest answering) k.done _ t ran same
-      (λ card. refl) holds.0 h.1 (λ n is terminal cause gone. absurd (none cause gone))
+      claim_at Terminal w k (Behind false collected rest answering) k.done _ t NotCarriedOut
+      (λ terminal cause gone. absurd (none cause gone)) ran same (λ card. refl) holds.0 h.1
+      (λ n is. omega (arith, is))
   claim_inv w k (Behind false collected rest answering) Terminal r t ran same none holds (inr h) =
       claim_sent w k collected rest answering _ t ran same
       (λ terminal cause gone. absurd (none cause gone)) holds h.0.1
@@ -488,9 +487,10 @@ module _ (m : Meaning) (before commands : List (List ℕ)) where
       → r.within ≡ false → Here (Level Terminal k.number k.due [] (Turns k.done) []) r t
       → TapAt at (proceeds k todo w) r t
   proceeds_tap at k [] w r t ran same all within h =
-      claim_ended at (with_phase Over (record w { todo = [] })) k.done [] t ran all h.1.told
+      claim_ended at (with_phase Over (record w { todo = [] })) k.done [] t NotCarriedOut
+      (λ terminal cause gone. absurd (cc)) ran all h.1.told
       (idle_in r.within t.now within h.1.newest) (omega (arith, same)) (omega (arith, same))
-      (λ terminal long. omega (arith, same)) (λ n is terminal cause gone. absurd (cc))
+      (λ terminal long. omega (arith, same)) (λ n is. omega (arith, is, same))
   proceeds_tap at k (c ∷ cs) w r t ran same all within h =
       behind_inv (record k { todo = cs; field = take k.size c }) [] (drop k.size c) true at r t h
 
@@ -553,52 +553,45 @@ module _ (m : Meaning) (before commands : List (List ℕ)) where
 
   -- ---- an exchange
 
+  -- what was heard at the terminal's connector, if the card's reply is not
+  unheard : (k : Kept) (s : Spot) (r : Reading) (t : Story) → Here (Received k s Terminal) r t
+      → Here (Mid k s Terminal) r t
+  unheard k (Sent first got rest) r t (missed, inl h) = (missed, h)
+  unheard k (Sent first got rest) r t (missed, inr h) = (missed, h)
+  unheard k _ r t h = h
+
+  -- at the card's it is
+  replied_at : (k : Kept) (s : Spot) (r : Reading) (t : Story) → Post k s Card r t
+      → Here (Mid k s Card) r t
+  replied_at k (Opens rest asks) r t h = h
+  replied_at k _ r t h = h
+
   -- the card's reply, which arrives, or is heard at the card alone
-  answered : (e : BlockReason) (out : Out) (k : Kept) (s : Spot) (tries extensions : ℕ) (at : End)
-      (up : Fate) (r : Reading) (t : Story) → IsHeard k s → Holds m before commands k s
+  answered : (at : End) (up : Fate) (e : BlockReason) (out : Out) (k : Kept) (s : Spot)
+      (tries extensions : ℕ) (r : Reading) (t : Story) → IsHeard k s → Holds m before commands k s
       → Here (Received k s at) r t
       → Then (TapAt at (arrived m before out up k s tries extensions)) r t
       (passes (is_end Card at) Card up (Some (reply_of m before e k s)))
-  answered e out k s tries extensions at up r t a holds h = by at up h where
-    reply : List Passed
-    reply = (Card, reply_of m before e k s) ∷ []
-
-    -- what was heard at the terminal's connector
-    unheard : (s : Spot) → Here (Received k s Terminal) r t → Here (Mid k s Terminal) r t
-    unheard (Sent first got rest) (missed, inl h) = (missed, h)
-    unheard (Sent first got rest) (missed, inr h) = (missed, h)
-    unheard _ h = h
-
-    -- what was heard at the card's
-    at_card : (s : Spot) (now : Reading) (told : Story) → Post k s Card now told
-        → Here (Mid k s Card) now told
-    at_card (Opens rest asks) now told h = h
-    at_card _ now told h = h
-
-    misses_at : (why : BlockReason) → Here (Received k s Card) r t
-        → Then (TapAt Card (misses m before why out k s tries extensions)) r t reply
-    misses_at why h =
-        then_more (Post k s Card) (TapAt Card (misses m before why out k s tries extensions)) reply []
-        (λ now told post. misses_tap Card why out k s tries extensions now told holds (at_card s now
-        told post)) r t (replies_one e k s Card r t a h)
-
-    by : (at : End) (up : Fate) → Here (Received k s at) r t
-        → Then (TapAt at (arrived m before out up k s tries extensions)) r t
-        (passes (is_end Card at) Card up (Some (reply_of m before e k s)))
-    by Card Delivers h =
-        then_more (Post k s Card) (TapAt Card (comes m before out k s tries extensions)) reply []
-        (λ now told. comes_tap Card out k s tries extensions now told a holds) r t
-        (replies_one e k s Card r t a h)
-    by Terminal Delivers h =
-        then_more (Post k s Terminal) (TapAt Terminal (comes m before out k s tries extensions)) reply
-        [] (λ now told. comes_tap Terminal out k s tries extensions now told a holds) r t
-        (replies_one e k s Terminal r t a h)
-    by Card Damages h = misses_at Edc h
-    by Card Loses h = misses_at Other h
-    by Terminal Damages h =
-        misses_tap Terminal Edc out k s tries extensions r t holds (unheard s h)
-    by Terminal Loses h =
-        misses_tap Terminal Other out k s tries extensions r t holds (unheard s h)
+  answered Card up e out k s tries extensions r t a holds h =
+      then_more (Post k s Card) (TapAt Card (arrived m before out up k s tries extensions))
+      ((Card, reply_of m before e k s) ∷ []) [] (by up) r t (replies_one e k s Card r t a h) where
+        by : (up : Fate) (now : Reading) (told : Story) → Post k s Card now told
+            → TapAt Card (arrived m before out up k s tries extensions) now told
+        by Delivers now told h = comes_tap Card out k s tries extensions now told a holds h
+        by Damages now told h =
+            misses_tap Card Edc out k s tries extensions now told holds (replied_at k s now told h)
+        by Loses now told h =
+            misses_tap Card Other out k s tries extensions now told holds
+            (replied_at k s now told h)
+  answered Terminal Delivers e out k s tries extensions r t a holds h =
+      then_more (Post k s Terminal) (TapAt Terminal (comes m before out k s tries extensions))
+      ((Card, reply_of m before e k s) ∷ []) []
+      (λ now told. comes_tap Terminal out k s tries extensions now told a holds) r t
+      (replies_one e k s Terminal r t a h)
+  answered Terminal Damages e out k s tries extensions r t a holds h =
+      misses_tap Terminal Edc out k s tries extensions r t holds (unheard k s r t h)
+  answered Terminal Loses e out k s tries extensions r t a holds h =
+      misses_tap Terminal Other out k s tries extensions r t holds (unheard k s r t h)
 
   -- the terminal ignores the reply to a damaged block
   unread : (out : Out) (k : Kept) (s : Spot) (tries extensions : ℕ) (at : End) (up : Fate)
@@ -635,7 +628,7 @@ module _ (m : Meaning) (before commands : List (List ℕ)) where
   garbled_tap k (Sent first got rest) why tries extensions at up r t holds h =
       unread (Asks why) k (Sent first got rest) tries extensions at up r t holds h
   garbled_tap k s why tries extensions at up r t holds h =
-      answered Edc (out_at k s why) k s tries extensions at up r t tt holds h
+      answered at up Edc (out_at k s why) k s tries extensions r t tt holds h
 
   abbrev After : End → Fate → Fate → Place → Reading → Story → Type 0
   After at down up p r t = TapAt at (step m before down up p) r t
@@ -649,12 +642,13 @@ module _ (m : Meaning) (before commands : List (List ℕ)) where
   taken k s why tries extensions at up r t holds h =
       let reply = takes_it m before k s why in
       subst (λ b. Then (After at Delivers up (Going k s why tries extensions)) r t
-      ((Terminal, sent_at k s why) ∷ passes (is_end Card at) Card up b)) (sym (ap (λ (x : Turn). x.block) reply.1))
+      ((Terminal, sent_at k s why) ∷ passes (is_end Card at) Card up b))
+      (sym (ap (λ (x : Turn). x.block) reply.1))
       (then_more (Here (Passing k s at)) (After at Delivers up (Going k s why tries extensions))
       ((Terminal, sent_at k s why) ∷ []) (passes (is_end Card at) Card up
       (Some (reply_of m before reply.0 (heard m before k s).0 (heard m before k s).1)))
-      (λ now told passing. answered reply.0 (out_at k s why) (heard m before k s).0
-      (heard m before k s).1 tries extensions at up now told (is_heard m before k s)
+      (λ now told passing. answered at up reply.0 (out_at k s why) (heard m before k s).0
+      (heard m before k s).1 tries extensions now told (is_heard m before k s)
       (heard_holds m before commands k s holds) (passing.0, takes k s at _ told passing.1)) r t
       (sends_one k s at why r t h))
 
@@ -685,9 +679,11 @@ module _ (m : Meaning) (before commands : List (List ℕ)) where
       (garbled_tap k s why tries extensions Card up r t holds (stayed k s r t h))
   going Terminal Damages up k s why tries extensions r t holds h =
       subst (λ b. Then (After Terminal Damages up (Going k s why tries extensions)) r t
-      ((Terminal, sent_at k s why) ∷ passes false Card up b)) (sym (ap (λ (x : Turn). x.block) (garbles_it m before k s)))
+      ((Terminal, sent_at k s why) ∷ passes false Card up b))
+      (sym (ap (λ (x : Turn). x.block) (garbles_it m before k s)))
       (then_more (Here (Passing k s Terminal))
-      (After Terminal Damages up (Going k s why tries extensions)) ((Terminal, sent_at k s why) ∷ [])
+      (After Terminal Damages up (Going k s why tries extensions))
+      ((Terminal, sent_at k s why) ∷ [])
       (passes false Card up (Some (garble_at k s)))
       (λ now told passing. garbled_tap k s why tries extensions Terminal up now told holds
       (gone k s now told passing)) r t (sends_one k s Terminal why r t h))
@@ -695,7 +691,8 @@ module _ (m : Meaning) (before commands : List (List ℕ)) where
       misses_tap Card Other (out_at k s why) k s tries extensions r t holds (stayed k s r t h)
   going Terminal Loses up k s why tries extensions r t holds h =
       then_more (Here (Passing k s Terminal))
-      (After Terminal Loses up (Going k s why tries extensions)) ((Terminal, sent_at k s why) ∷ []) []
+      (After Terminal Loses up (Going k s why tries extensions)) ((Terminal, sent_at k s why) ∷ [])
+      []
       (λ now told passing. misses_tap Terminal Other (out_at k s why) k s tries extensions now told
       holds (gone k s now told passing)) r t (sends_one k s Terminal why r t h)
 
@@ -738,9 +735,9 @@ module _ (m : Meaning) (before commands : List (List ℕ)) where
   first_taps : (at : End) (settings : Settings) (todo : List (List ℕ)) → todo ≡ commands
       → TapAt at (first before settings todo) fresh untold
   first_taps at settings [] all =
-      claim_ended at _ [] [] untold (sym (append-nil before)) all refl (λ begun. absurd (cc))
-      (omega arith) (omega arith) (λ terminal long. omega arith)
-      (λ n is terminal cause gone. absurd (cc))
+      claim_ended at _ [] [] untold NotCarriedOut (λ terminal cause gone. absurd (cc))
+      (sym (append-nil before)) all refl (λ begun. absurd (cc)) (omega arith) (omega arith)
+      (λ terminal long. omega arith) (λ n is. omega (arith, is))
   first_taps at settings (c ∷ cs) all = (
     refl,
     record {

@@ -9,7 +9,7 @@ use Rattle.t1_core.specs.declared.reading.End.TheVariants.{Terminal, Card}
 use Rattle.t1_core.specs.declared.reading.Reading.{Reading}
 use Rattle.t1_core.specs.declared.settings.Edc.{Edc}
 use Rattle.t1_core.specs.Block.{Block, more}
-use Rattle.t1_core.specs.Hearing.{Heard, Item, IsItem, AreItems, IsOther, Ear, HasHeard, after_items, given, goes_on, heard_of, hears, hears_all, hears_on, stops, goes_on_from, hears_next, is_cut, item_with, sent_by}
+use Rattle.t1_core.specs.Hearing.{listening, Heard, Item, IsItem, AreItems, IsOther, Ear, HasHeard, after_items, given, goes_on, heard_of, hears, hears_all, hears_on, stops, goes_on_from, hears_next, is_cut, item_with, sent_by}
 use Rattle.t1_core.specs.Items.{Valid, Cut, found_in, is_complete}
 use Rattle.t1_core.specs.Reading.{fresh, peer, reads}
 use Rattle.std.proofs.Math.Seq.{take-length}
@@ -74,21 +74,26 @@ items_longer edc r (i ∷ items) rest more are = (
 )
 
 -- `i` begins with `rest`, and `later` follows it
+joins : (items : List Item) (i : Item) (rest more later : List Heard)
+    → rest ++ more ≡ heard_of i ++ later
+    → (flat_map heard_of items ++ rest) ++ more ≡ flat_map heard_of (items ++ i ∷ []) ++ later
+joins items i rest more later is =
+    let before : List Heard = flat_map heard_of items in
+    append_assoc before rest more ∙ ap (λ hs. before ++ hs) is
+    ∙ sym (append_assoc before (heard_of i) later)
+    ∙ ap (λ hs. (before ++ hs) ++ later) (sym (append-nil (heard_of i)))
+    ∙ ap (λ hs. hs ++ later) (sym (flat_map-append heard_of items (i ∷ [])))
+
 one_more : (edc : Edc) (r : Reading) (items : List Item) (i : Item)
     (rest more later : List Heard) → rest ++ more ≡ heard_of i ++ later
     → AreItems edc r items rest → IsItem edc (after_items r items) i later
     → AreItems edc r (items ++ i ∷ []) later
 one_more edc r [] i rest more later is are item = (item, tt)
-one_more edc r (j ∷ items) i rest more later is are item =
-    let before : List Heard = flat_map heard_of items in (
-      subst (IsItem edc r j)
-          (append_assoc before rest more ∙ ap (λ hs. before ++ hs) is
-          ∙ sym (append_assoc before (heard_of i) later)
-          ∙ ap (λ hs. (before ++ hs) ++ later) (sym (append-nil (heard_of i)))
-          ∙ ap (λ hs. hs ++ later) (sym (flat_map-append heard_of items (i ∷ []))))
-          (item_longer (before ++ rest) more are.0),
-      one_more edc (reads r j.from j.found).1 items i rest more later is are.1 item,
-    )
+one_more edc r (j ∷ items) i rest more later is are item = (
+  subst (IsItem edc r j) (joins items i rest more later is)
+      (item_longer (flat_map heard_of items ++ rest) more are.0),
+  one_more edc (reads r j.from j.found).1 items i rest more later is are.1 item,
+)
 
 read_more : (r : Reading) (items : List Item) (i : Item)
     → after_items r (items ++ i ∷ []) ≡ (reads (after_items r items) i.from i.found).1
@@ -103,16 +108,14 @@ joined : (part : List ℕ) (from now : End) (b : ℕ) → is_cut part from now �
 joined [] from now b is = refl
 joined (c ∷ part) Terminal Terminal b is = sym (map-append (λ x. (Terminal, x)) (c ∷ part) (b ∷ []))
 joined (c ∷ part) Card Card b is = sym (map-append (λ x. (Card, x)) (c ∷ part) (b ∷ []))
-joined (c ∷ part) Terminal Card b is = absurd (cc)
-joined (c ∷ part) Card Terminal b is = absurd (cc)
+joined (c ∷ part) _ _ b is = absurd (cc)
 
 cut_by : (part : List ℕ) (from now : End) → is_cut part from now ≡ true
     → (now ≡ peer from) × (0 < length part)
 cut_by [] from now is = absurd (cc)
 cut_by (c ∷ part) Terminal Card is = (refl, omega arith)
 cut_by (c ∷ part) Card Terminal is = (refl, omega arith)
-cut_by (c ∷ part) Terminal Terminal is = absurd (cc)
-cut_by (c ∷ part) Card Card is = absurd (cc)
+cut_by (c ∷ part) _ _ is = absurd (cc)
 
 -- a part that grows is complete with its last byte, if ever
 grows : (edc : Edc) (part : List ℕ) (b k : ℕ) → ((k : ℕ) → is_complete edc (take k part) ≡ false)
@@ -130,72 +133,46 @@ none_is_short : (edc : Edc) (k : ℕ) → is_complete edc (take k []) ≡ false
 none_is_short edc zero = refl
 none_is_short edc (suc k) = refl
 
-abbrev item_at : Ear → Item
-item_at e = item_with e.edc e.reading e.from e.part
-
 module _ (heard : List Heard) (items : List Item) where
   abbrev pub Hears : End → (byte : ℕ) → Ear → Type 0
   Hears from b e = HasHeard (heard ++ (from, b) ∷ []) (items ++ given e) (goes_on e)
 
-  -- with the item of `e`, which this byte ends
-  all_more : (g e : Ear) (from : End) (b : ℕ) (later : List Heard) → HasHeard heard items g
-      → sent_by g.from g.part ++ (from, b) ∷ [] ≡ heard_of (item_at e) ++ later
-      → heard ++ (from, b) ∷ [] ≡ flat_map heard_of (items ++ item_at e ∷ []) ++ later
-  all_more g e from b later h is =
-      let before : List Heard = flat_map heard_of items in
-      ap (λ hs. hs ++ (from, b) ∷ []) h.all
-      ∙ append_assoc before (sent_by g.from g.part) ((from, b) ∷ [])
-      ∙ ap (λ hs. before ++ hs) is
-      ∙ sym (append_assoc before (heard_of (item_at e)) later)
-      ∙ ap (λ hs. (before ++ hs) ++ later) (sym (append-nil (heard_of (item_at e))))
-      ∙ ap (λ hs. hs ++ later) (sym (flat_map-append heard_of items (item_at e ∷ [])))
-
-  item_is : (e : Ear) (later : List Heard) → e.reading ≡ after_items fresh items
-      → 0 < length e.part
-      → ((k : ℕ) → k < length e.part → is_complete e.edc (take k e.part) ≡ false)
-      → (is_complete e.edc e.part ≡ true) ⊎ IsOther e.from later
-      → IsItem e.edc (after_items fresh items) (item_at e) later
-  item_is e later read some before ends = subst (λ r. IsItem e.edc r (item_at e) later) read
-      (record { some = some; not_sooner = before; ends = ends; is = refl })
-
-  -- a byte of the other end cuts off the item
-  cuts : (g : Ear) (from : End) (b : ℕ) → is_cut g.part g.from from ≡ true
-      → HasHeard heard items g → Hears from b (record g { ended = true; held = b ∷ [] })
-  cuts g from b cut h =
-      let e : Ear = record g { ended = true; held = b ∷ [] } in
-      let by = cut_by g.part g.from from cut in
-      let later : List Heard = (peer g.from, b) ∷ [] in
-      let is : sent_by g.from g.part ++ (from, b) ∷ [] ≡ heard_of (item_at e) ++ later =
-      ap (λ end. sent_by g.from g.part ++ (end, b) ∷ []) by.0 in
+  -- this byte has ended an item of `part`, and `held` follows
+  ends_item : (g : Ear) (end : End) (part : List ℕ) (from : End) (b : ℕ) (next : End)
+      (held : List ℕ) → HasHeard heard items g
+      → sent_by g.from g.part ++ (from, b) ∷ [] ≡ sent_by end part ++ sent_by next held
+      → 0 < length part
+      → ((k : ℕ) → k < length part → is_complete g.edc (take k part) ≡ false)
+      → (is_complete g.edc part ≡ true) ⊎ IsOther end (sent_by next held)
+      → ((k : ℕ) → is_complete g.edc (take k held) ≡ false)
+      → HasHeard (heard ++ (from, b) ∷ []) (items ++ item_with g.edc g.reading end part ∷ [])
+      (listening g.edc next held (reads g.reading end (found_in g.edc part)).1)
+  ends_item g end part from b next held h is some sooner ends short =
+      let i : Item = item_with g.edc g.reading end part in
+      let later : List Heard = sent_by next held in
+      let rest : List Heard = sent_by g.from g.part in
       record {
-        all = all_more g e from b later h is;
-        divided = one_more g.edc fresh items (item_at e) (sent_by g.from g.part)
-            ((from, b) ∷ []) later is h.divided
-            (item_is e later h.read by.1 (λ k few. h.incomplete k) (inr refl));
-        incomplete = one_is_short g.edc b;
+        all = ap (λ hs. hs ++ (from, b) ∷ []) h.all
+            ∙ joins items i rest ((from, b) ∷ []) later is;
+        divided = one_more g.edc fresh items i rest ((from, b) ∷ []) later is h.divided
+            (subst (λ r. IsItem g.edc r i later) h.read
+            (record { some = some; not_sooner = sooner; ends = ends; is = refl }));
+        incomplete = short;
         none_held = refl;
-        read = ap (λ r. (reads r g.from (found_in g.edc g.part)).1) h.read
-            ∙ sym (read_more fresh items (item_at e));
+        read = ap (λ r. (reads r end (found_in g.edc part)).1) h.read
+            ∙ sym (read_more fresh items i);
       }
 
   adds : (g : Ear) (from : End) (b : ℕ) → is_cut g.part g.from from ≡ false
       → HasHeard heard items g → (v : Bool) → is_complete g.edc (g.part ++ b ∷ []) ≡ v
       → Hears from b (record g { from = from; part = g.part ++ b ∷ []; ended = v })
   adds g from b cut h true whole =
-      let e : Ear = record g { from = from; part = g.part ++ b ∷ []; ended = true } in
-      let is : sent_by g.from g.part ++ (from, b) ∷ [] ≡ heard_of (item_at e) ++ [] =
-      joined g.part g.from from b cut ∙ sym (append-nil (heard_of (item_at e))) in
-      rw h.none_held (record {
-        all = all_more g e from b [] h is;
-        divided = one_more g.edc fresh items (item_at e) (sent_by g.from g.part)
-            ((from, b) ∷ []) [] is h.divided
-            (item_is e [] h.read (let long = length-append g.part (b ∷ []) in omega (arith, long))
-            (λ k. grows g.edc g.part b k h.incomplete) (inl whole));
-        incomplete = none_is_short g.edc;
-        none_held = refl;
-        read = ap (λ r. (reads r from (found_in g.edc e.part)).1) h.read
-            ∙ sym (read_more fresh items (item_at e));
-      })
+      let part : List ℕ = g.part ++ b ∷ [] in
+      let long = length-append g.part (b ∷ []) in
+      rw h.none_held (ends_item g from part from b from [] h
+      (joined g.part g.from from b cut ∙ sym (append-nil (sent_by from part)))
+      (omega (arith, long)) (λ k. grows g.edc g.part b k h.incomplete) (inl whole)
+      (none_is_short g.edc))
   adds g from b cut h false whole =
       let part : List ℕ = g.part ++ b ∷ [] in
       let is : sent_by g.from g.part ++ (from, b) ∷ [] ≡ sent_by from part =
@@ -222,7 +199,11 @@ module _ (heard : List Heard) (items : List Item) where
     by : (g : Ear) → HasHeard heard items g → Hears from b (hears_next g from b)
     by g h = at (is_cut g.part g.from from) refl where
       at : (v : Bool) → is_cut g.part g.from from ≡ v → Hears from b (hears_on v g from b)
-      at true cut = cuts g from b cut h
+      at true cut =
+          let by = cut_by g.part g.from from cut in
+          ends_item g g.from g.part from b (peer g.from) (b ∷ []) h
+          (ap (λ end. sent_by g.from g.part ++ (end, b) ∷ []) by.0) by.1 (λ k few. h.incomplete k)
+          (inr refl) (one_is_short g.edc b)
       at false cut = adds g from b cut h (is_complete g.edc (g.part ++ b ∷ [])) refl
 
 -- ---- a reset
@@ -344,7 +325,8 @@ module _ (heard more : List Heard) (xs ys : List Item) (e : Ear) (from : End) (b
                   ∙ none_sooner (length i.bytes) short in cc
               | inr other ↦ not_own i.from (drop (length i.bytes) bytes) more
                   (omega (arith, left, short))
-                  (subst (IsOther i.from) (front.1 ∙ ap (λ f. sent_by f (drop (length i.bytes) bytes)
+                  (subst (IsOther i.from) (front.1 ∙ ap (λ f. sent_by f
+                  (drop (length i.bytes) bytes)
                   ++ more) (sym end)) other)
             ]
 

@@ -507,7 +507,8 @@ module _ (m : Meaning) (before : List (List ℕ)) where
       (NoError, rw (same_other_2 k.due) (rw (other_other k.due) refl))
 
   -- and if it is damaged
-  pub garbles_it : (k : Kept) (s : Spot) → card_damaged Edc (card_at k s) ≡ turn (card_at k s) (garble_at k s)
+  pub garbles_it : (k : Kept) (s : Spot)
+      → card_damaged Edc (card_at k s) ≡ turn (card_at k s) (garble_at k s)
   garbles_it k (Waits rest n size granted) = refl
   garbles_it k (Grows rest size granted) = refl
   garbles_it k _ = refl

@@ -1,7 +1,6 @@
 -- A tap at a connector, from place to place of a dialogue.
 use Rattle.std.specs.List.{AllByRecursion}
 use Rattle.std.proofs.Common.{arith, ◌≡◌, ◌≢◌, refl, sym, ap, subst, ◌∙◌, ℕ, zero, suc, ◌+◌, ◌*◌, ◌≤◌, ◌⊎◌, inl, inr, Bool, true, false, List, [], ◌∷◌, ◌++◌, length, take, drop, Option, Some, None, append_assoc, append-nil, length-append, cond}
-use Rattle.std.proofs.lemmas.Bool.{eq-eqb}
 use Rattle.std.proofs.lemmas.List.{take-append-drop, take_all, drop_all}
 use Rattle.t1_core.specs.declared.block.Control.TheVariants.{Ifs, Wtx}
 use Rattle.t1_core.specs.declared.settings.Edc.{Edc as Code}
@@ -10,7 +9,7 @@ use Rattle.t1_core.specs.declared.line.Fates.{Fates}
 use Rattle.t1_core.specs.declared.line.Fate.{Fate}
 use Rattle.t1_core.specs.declared.line.Fate.TheVariants.{Delivers, Damages, Loses}
 use Rattle.t1_core.specs.declared.pcb.BlockReason.{BlockReason}
-use Rattle.t1_core.specs.declared.pcb.BlockReason.TheVariants.{NoError, Edc, Other}
+use Rattle.t1_core.specs.declared.pcb.BlockReason.TheVariants.{Edc, Other}
 use Rattle.t1_core.specs.declared.reading.End.{End}
 use Rattle.t1_core.specs.declared.reading.End.TheVariants.{Terminal, Card}
 use Rattle.t1_core.specs.declared.reading.Reading.{Reading}
@@ -22,18 +21,17 @@ use Rattle.t1_core.specs.declared.terminal.Out.{Out}
 use Rattle.t1_core.specs.declared.terminal.Out.TheVariants.{Asks}
 use Rattle.t1_core.specs.declared.terminal.Outcome.{Outcome}
 use Rattle.t1_core.specs.declared.terminal.Outcome.TheVariants.{NotCarriedOut}
-use Rattle.t1_core.specs.Block.{Block, I, R, Request, Response, is_size, more, other}
-use Rattle.t1_core.specs.CardSide.{Meaning, Turn, answers_with, card_damaged, card_takes, carries_out, request_of}
+use Rattle.t1_core.specs.Block.{Block, I, R, Response, is_size, more, other}
+use Rattle.t1_core.specs.CardSide.{Meaning, Turn, card_takes}
 use Rattle.t1_core.specs.Overhearing.{IsBegun, IsGiven, IsKnown, IsOverheard, Message, Passed, Story, blocks_in, messages, passed, passes, passes_both, tells_all, turns, untold}
-use Rattle.t1_core.specs.TerminalSide.{has_stopped, longest, outcome_of, outcome_with, sends}
+use Rattle.t1_core.specs.TerminalSide.{has_stopped, outcome_of, outcome_with, sends}
 use Rattle.t1_core.specs.Gathering.{Gathered}
 use Rattle.t1_core.specs.Hearing.{AreItems, Heard, Item}
 use Rattle.t1_core.specs.Reading.{fresh, is_end, peer}
 use Rattle.t1_core.specs.World.{World, run, start}
-use Rattle.t1_core.proofs.Bits.{same_self, same_other_2, other_other}
 use Rattle.t1_core.proofs.HeardBlocks.{Here, IsPlain, Level, New, Newest, One, Then, asked, card_again, it_ends, more_follows, new_field, of_items, plain, terminal_again, then_more}
 use Rattle.t1_core.proofs.Holding.{AddsUp, Holds, HoldsAt, first, first_holds, first_is, heard_holds, many, moves, responding, sending, step_holds}
-use Rattle.t1_core.proofs.Places.{sent_at, sends_it, garble_at, garbles_it, takes_it, Kept, Spot, Place, Going, Opens, Behind, Taken, Waits, Grows, Between, Sent, Given_up, Finished, arrived, asking, card_at, card_in, comes, comes_next, garbled, grows, heard, is_heard, is_long, misses, numbered, out_at, out_of, proceeds, reply_of, requests, runs, starts, step, terminal_at, terminal_in, uses, with_phase, world_of, IsHeard, error_of, is_step}
+use Rattle.t1_core.proofs.Places.{sent_at, sends_it, garble_at, garbles_it, takes_it, Kept, Spot, Place, Going, Opens, Behind, Taken, Waits, Grows, Between, Sent, Given_up, Finished, arrived, asking, card_at, card_in, comes, comes_next, garbled, grows, heard, is_heard, is_long, misses, numbered, out_at, out_of, proceeds, reply_of, runs, starts, step, terminal_in, uses, with_phase, world_of, IsHeard, error_of, is_step}
 
 garble_plain : (k : Kept) (s : Spot) → IsPlain (garble_at k s)
 garble_plain k (Waits rest n size granted) = tt

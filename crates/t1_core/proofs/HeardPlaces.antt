@@ -21,7 +21,7 @@ use Rattle.t1_core.specs.declared.terminal.Out.{Out}
 use Rattle.t1_core.specs.declared.terminal.Out.TheVariants.{Asks}
 use Rattle.t1_core.specs.declared.terminal.Outcome.{Outcome}
 use Rattle.t1_core.specs.declared.terminal.Outcome.TheVariants.{NotCarriedOut}
-use Rattle.t1_core.specs.Block.{Block, I, R, Response, is_size, more, other}
+use Rattle.t1_core.specs.Block.{Response, is_size, more, other}
 use Rattle.t1_core.specs.CardSide.{Meaning, Turn, card_takes}
 use Rattle.t1_core.specs.Overhearing.{IsBegun, IsGiven, IsKnown, IsOverheard, Message, Passed, Story, blocks_in, messages, passed, passes, passes_both, tells_all, turns, untold}
 use Rattle.t1_core.specs.TerminalSide.{has_stopped, outcome_of, outcome_with, sends}

@@ -6,7 +6,7 @@ use Rattle.t0_core.specs.CardSide.{EndOf}
 use Rattle.t0_core.specs.Plan.{Cursor, plan_kept}
 use Rattle.object_card.specs.CardView.{CardView}
 use Rattle.card_c.specs.declared.card_side.CardSide.{CardSide}
-use Rattle.card_c.specs.declared.card_side.CardSide.TheVariants.{Building, Standing, Joined, AtT1, Own, OwnAtT1}
+use Rattle.card_c.specs.declared.card_side.CardSide.TheVariants.{Standing, AtT1, Own, OwnAtT1}
 use Rattle.card_c.specs.BufferCalls.{CardReceives, CardSends}
 use Rattle.card_c.specs.CardApduCalls.{RespondsTo}
 use Rattle.card_c.specs.CardCalls.{Resets, TakesOne, Turns}
@@ -23,74 +23,48 @@ IsOther side = (end : EndOf CardView) (plans : Cursor) → side ≡ Standing end
 pub other_takes : (byte : ℕ) (side : CardSide) (code : ℤ) (new : CardSide) → IsOther side
     → OwnTakes byte side code new → TakesOne byte side code new
 other_takes byte (Standing end plans) code new other is = absurd (other end plans refl)
-other_takes byte (Building applications) code new other is = is
-other_takes byte (Joined session) code new other is = is
-other_takes byte (AtT1 at) code new other is = is
-other_takes byte (Own own) code new other is = is
-other_takes byte (OwnAtT1 at) code new other is = is
+other_takes byte side code new other is = is
 
 pub other_turns : (before byte : ℕ) (side : CardSide) (code : ℤ) (new : CardSide) → IsOther side
     → OwnTurns before byte side code new → Turns before byte side code new
 other_turns before byte (Standing end plans) code new other is = absurd (other end plans refl)
-other_turns before byte (Building applications) code new other is = is
-other_turns before byte (Joined session) code new other is = is
-other_turns before byte (AtT1 at) code new other is = is
-other_turns before byte (Own own) code new other is = is
-other_turns before byte (OwnAtT1 at) code new other is = is
+other_turns before byte side code new other is = is
 
 pub other_receives : (bytes : List ℕ) (before n : ℕ) (side : CardSide) (code : ℤ)
     (new : CardSide) → IsOther side → OwnReceives bytes before n side code new
     → CardReceives bytes before n side code new
 other_receives bytes before n (Standing end plans) code new other is =
     absurd (other end plans refl)
-other_receives bytes before n (Building applications) code new other is = is
-other_receives bytes before n (Joined session) code new other is = is
-other_receives bytes before n (AtT1 at) code new other is = is
-other_receives bytes before n (Own own) code new other is = is
-other_receives bytes before n (OwnAtT1 at) code new other is = is
+other_receives bytes before n side code new other is = is
 
 pub other_sends : (room : List ℕ) (n : ℕ) (room' : List ℕ) (n' : ℕ) (side : CardSide) (code : ℤ)
     (new : CardSide) → IsOther side → OwnSends room n room' n' side code new
     → CardSends room n room' n' side code new
 other_sends room n room' n' (Standing end plans) code new other is = absurd (other end plans refl)
-other_sends room n room' n' (Building applications) code new other is = is
-other_sends room n room' n' (Joined session) code new other is = is
-other_sends room n room' n' (AtT1 at) code new other is = is
-other_sends room n room' n' (Own own) code new other is = is
-other_sends room n room' n' (OwnAtT1 at) code new other is = is
+other_sends room n room' n' side code new other is = is
 
 pub other_resets : (side : CardSide) (code : ℤ) (new : CardSide) → at_t0 side ≡ side
     → IsOther side → OwnResets side code new → Resets side code new
 other_resets (Standing end plans) code new same other is = absurd (other end plans refl)
-other_resets (Building applications) code new same other is = is
-other_resets (Joined session) code new same other is = is
 other_resets (AtT1 at) code new same other is =
     let never : Standing at.end.card at.plans ≡ AtT1 at = same in absurd (cc)
-other_resets (Own own) code new same other is = is
 other_resets (OwnAtT1 at) code new same other is =
     let never : Own (own_at_t0 at) ≡ OwnAtT1 at = same in absurd (cc)
+other_resets side code new same other is = is
 
 pub other_responds : (apdu room : List ℕ) (len : ℕ) (room' : List ℕ) (len' : ℕ) (side : CardSide)
     (code : ℤ) (new : CardSide) → IsOther side → OwnCommand apdu room len room' len' side code new
     → RespondsTo apdu room len room' len' side code new
 other_responds apdu room len room' len' (Standing end plans) code new other is =
     absurd (other end plans refl)
-other_responds apdu room len room' len' (Building applications) code new other is = is
-other_responds apdu room len room' len' (Joined session) code new other is = is
-other_responds apdu room len room' len' (AtT1 at) code new other is = is
-other_responds apdu room len room' len' (Own own) code new other is = is
-other_responds apdu room len room' len' (OwnAtT1 at) code new other is = is
+other_responds apdu room len room' len' side code new other is = is
 
 pub other_carries : (tpdu room : List ℕ) (len : ℕ) (room' : List ℕ) (len' : ℕ) (side : CardSide)
     (code : ℤ) (new : CardSide) → IsOther side → OwnTpdu tpdu room len room' len' side code new
     → CarriesOut tpdu room len room' len' side code new
 other_carries tpdu room len room' len' (Standing end plans) code new other is =
     absurd (other end plans refl)
-other_carries tpdu room len room' len' (Building applications) code new other is = is
-other_carries tpdu room len room' len' (Joined session) code new other is = is
-other_carries tpdu room len room' len' (AtT1 at) code new other is = is
-other_carries tpdu room len room' len' (Own own) code new other is = is
-other_carries tpdu room len room' len' (OwnAtT1 at) code new other is = is
+other_carries tpdu room len room' len' side code new other is = is
 
 pub empty_is : (o : Option CardSide) → is_some o ≡ false → o ≡ None
 empty_is None none = refl

@@ -29,7 +29,7 @@ returns-in-Ok c =
       sym c.in-Some.ensures,
       enough,
       ap (λ (k : OwnCard). wait_code (wanted_by k asked.header asked.p3 asked.content))
-          (sym c.card.ensures) ∙ ap wait_code c.in-Nothing.ensures.needs,
+          (sym c.card.ensures) ∙ ap wait_code c.in-Nothing.ensures,
       refl,
       carried,
     )))

@@ -285,8 +285,7 @@ pub fn needed_by(card: &CommandCard<Given>, header: Header, p3: u8, bytes: &[u8]
     need_by(card, header, p3, bytes)
 }
 
-/// What is wanted of the caller at a header, if these are its data. It is not inlined, so that the
-/// path of other characters stays short.
+/// What is wanted of the caller at a header, if these are its data. Most characters end no header.
 #[inline(never)]
 fn wanted_by<'a>(card: &CommandCard<Given>, header: Header, p3: u8, bytes: &'a [u8]) -> Wanted<'a>
     ensures { result ≡ wanted_by card.now header p3 bytes.now }
@@ -317,6 +316,7 @@ fn wanted_after<'a>(card: &CommandCard<Given>, bytes: &'a [u8]) -> Wanted<'a>
 }
 
 /// What is wanted of the caller before the card's end sends its next character.
+#[inline(always)]
 pub fn wanted_next<'a>(end: &'a CardEnd<CommandCard<Given>>) -> Wanted<'a>
     ensures { IsWanted end.now result }
 {

@@ -1,12 +1,18 @@
 -- What a card of an own application does, it does as a card that has no data objects.
-use Rattle.std.proofs.Common.{◌≡◌, ℕ, ℤ, List, Option, None, Some, false, refl, inr}
+use Rattle.std.proofs.Common.{◌≡◌, ℕ, ℤ, List, Option, None, Some, false, refl, inr, subst, sym}
 use Rattle.std.specs.Prelude.{is_some}
 use Rattle.t0_core.specs.CardSending.{IsHandedOut}
-use Rattle.t0_core.specs.CardSide.{EndOf}
+use Rattle.t0_core.specs.CardSide.{EndOf, Stage}
+use Rattle.t0_core.specs.Meaning.{Prepared}
 use Rattle.t0_core.specs.Plan.{Cursor, plan_kept}
 use Rattle.object_card.specs.CardView.{CardView}
+use Rattle.command_card.specs.declared.ready.Ready.{Ready}
+use Rattle.command_card.specs.declared.ready.Ready.TheVariants as ready
+use Rattle.command_card.specs.Given.{GivenState}
+use Rattle.command_card.specs.State.{CardState}
+use Rattle.command_card.specs.Wanted.{forgotten_by}
 use Rattle.card_c.specs.declared.card_side.CardSide.{CardSide}
-use Rattle.card_c.specs.declared.card_side.CardSide.TheVariants.{Building, Standing, Joined, AtT1, Own, OwnAtT1}
+use Rattle.card_c.specs.declared.card_side.CardSide.TheVariants.{Standing, AtT1, Own, OwnAtT1}
 use Rattle.card_c.specs.BufferCalls.{CardReceives, CardSends}
 use Rattle.card_c.specs.CardApduCalls.{RespondsTo}
 use Rattle.card_c.specs.CardCalls.{Resets, TakesOne, Turns}
@@ -23,74 +29,48 @@ IsOther side = (end : EndOf CardView) (plans : Cursor) → side ≡ Standing end
 pub other_takes : (byte : ℕ) (side : CardSide) (code : ℤ) (new : CardSide) → IsOther side
     → OwnTakes byte side code new → TakesOne byte side code new
 other_takes byte (Standing end plans) code new other is = absurd (other end plans refl)
-other_takes byte (Building applications) code new other is = is
-other_takes byte (Joined session) code new other is = is
-other_takes byte (AtT1 at) code new other is = is
-other_takes byte (Own own) code new other is = is
-other_takes byte (OwnAtT1 at) code new other is = is
+other_takes byte side code new other is = is
 
 pub other_turns : (before byte : ℕ) (side : CardSide) (code : ℤ) (new : CardSide) → IsOther side
     → OwnTurns before byte side code new → Turns before byte side code new
 other_turns before byte (Standing end plans) code new other is = absurd (other end plans refl)
-other_turns before byte (Building applications) code new other is = is
-other_turns before byte (Joined session) code new other is = is
-other_turns before byte (AtT1 at) code new other is = is
-other_turns before byte (Own own) code new other is = is
-other_turns before byte (OwnAtT1 at) code new other is = is
+other_turns before byte side code new other is = is
 
 pub other_receives : (bytes : List ℕ) (before n : ℕ) (side : CardSide) (code : ℤ)
     (new : CardSide) → IsOther side → OwnReceives bytes before n side code new
     → CardReceives bytes before n side code new
 other_receives bytes before n (Standing end plans) code new other is =
     absurd (other end plans refl)
-other_receives bytes before n (Building applications) code new other is = is
-other_receives bytes before n (Joined session) code new other is = is
-other_receives bytes before n (AtT1 at) code new other is = is
-other_receives bytes before n (Own own) code new other is = is
-other_receives bytes before n (OwnAtT1 at) code new other is = is
+other_receives bytes before n side code new other is = is
 
 pub other_sends : (room : List ℕ) (n : ℕ) (room' : List ℕ) (n' : ℕ) (side : CardSide) (code : ℤ)
     (new : CardSide) → IsOther side → OwnSends room n room' n' side code new
     → CardSends room n room' n' side code new
 other_sends room n room' n' (Standing end plans) code new other is = absurd (other end plans refl)
-other_sends room n room' n' (Building applications) code new other is = is
-other_sends room n room' n' (Joined session) code new other is = is
-other_sends room n room' n' (AtT1 at) code new other is = is
-other_sends room n room' n' (Own own) code new other is = is
-other_sends room n room' n' (OwnAtT1 at) code new other is = is
+other_sends room n room' n' side code new other is = is
 
 pub other_resets : (side : CardSide) (code : ℤ) (new : CardSide) → at_t0 side ≡ side
     → IsOther side → OwnResets side code new → Resets side code new
 other_resets (Standing end plans) code new same other is = absurd (other end plans refl)
-other_resets (Building applications) code new same other is = is
-other_resets (Joined session) code new same other is = is
 other_resets (AtT1 at) code new same other is =
     let never : Standing at.end.card at.plans ≡ AtT1 at = same in absurd (cc)
-other_resets (Own own) code new same other is = is
 other_resets (OwnAtT1 at) code new same other is =
     let never : Own (own_at_t0 at) ≡ OwnAtT1 at = same in absurd (cc)
+other_resets side code new same other is = is
 
 pub other_responds : (apdu room : List ℕ) (len : ℕ) (room' : List ℕ) (len' : ℕ) (side : CardSide)
     (code : ℤ) (new : CardSide) → IsOther side → OwnCommand apdu room len room' len' side code new
     → RespondsTo apdu room len room' len' side code new
 other_responds apdu room len room' len' (Standing end plans) code new other is =
     absurd (other end plans refl)
-other_responds apdu room len room' len' (Building applications) code new other is = is
-other_responds apdu room len room' len' (Joined session) code new other is = is
-other_responds apdu room len room' len' (AtT1 at) code new other is = is
-other_responds apdu room len room' len' (Own own) code new other is = is
-other_responds apdu room len room' len' (OwnAtT1 at) code new other is = is
+other_responds apdu room len room' len' side code new other is = is
 
 pub other_carries : (tpdu room : List ℕ) (len : ℕ) (room' : List ℕ) (len' : ℕ) (side : CardSide)
     (code : ℤ) (new : CardSide) → IsOther side → OwnTpdu tpdu room len room' len' side code new
     → CarriesOut tpdu room len room' len' side code new
 other_carries tpdu room len room' len' (Standing end plans) code new other is =
     absurd (other end plans refl)
-other_carries tpdu room len room' len' (Building applications) code new other is = is
-other_carries tpdu room len room' len' (Joined session) code new other is = is
-other_carries tpdu room len room' len' (AtT1 at) code new other is = is
-other_carries tpdu room len room' len' (Own own) code new other is = is
-other_carries tpdu room len room' len' (OwnAtT1 at) code new other is = is
+other_carries tpdu room len room' len' side code new other is = is
 
 pub empty_is : (o : Option CardSide) → is_some o ≡ false → o ≡ None
 empty_is None none = refl
@@ -110,3 +90,25 @@ own_handed plans s t b is = (
 pub own_driven : (plans : Cursor) (s t : EndOf OwnCard) (b : ℕ) → IsHandedOut own_card s b t
     → OwnHandsOutOne (s, plans) b (t, plans)
 own_driven plans s t b is = (inr is, own_handed plans s t b is)
+
+-- what `forget` drops is dropped once, and nothing else changes
+pub forgotten_is : (c : OwnCard) → (forgotten_by (forgotten_by c) ≡ forgotten_by c)
+    × (own_card.prepared (forgotten_by c) ≡ own_card.prepared c)
+forgotten_is c = at c.ready where
+  at : (r : Ready)
+      → (forgotten_by (forgotten_by (record c { ready = r })) ≡ forgotten_by (record c { ready = r }))
+      × (own_card.prepared (forgotten_by (record c { ready = r }))
+      ≡ own_card.prepared (record c { ready = r }))
+  at ready.Nothing = (refl, refl)
+  at other = (refl, refl)
+
+-- what leads to an end leads to another that stands alike
+pub same_end : (old new : EndOf OwnCard) → own_card.standing new.card ≡ own_card.standing old.card
+    → own_card.prepared new.card ≡ own_card.prepared old.card → new.stage ≡ old.stage
+    → (L : CardState GivenState → Prepared (CardState GivenState) → Stage → Type 0)
+    → L (own_card.standing old.card) (own_card.prepared old.card) old.stage
+    → L (own_card.standing new.card) (own_card.prepared new.card) new.stage
+same_end old new stands prepared stage L led =
+    subst (λ s. L s (own_card.prepared new.card) new.stage) (sym stands)
+    (subst (λ p. L (own_card.standing old.card) p new.stage) (sym prepared)
+    (subst (λ t. L (own_card.standing old.card) (own_card.prepared old.card) t) (sym stage) led))

@@ -30,7 +30,7 @@ use Rattle.command_card.specs.Given.{Answers, GivenState, after_drop, at_rest, n
 use Rattle.command_card.specs.Meaning.{Does}
 use Rattle.command_card.specs.State.{CardState}
 use Rattle.command_card.specs.View.{CardOf, MayReceive, MaySend, after_reset, new_card, prepared_in, standing_in}
-use Rattle.command_card.specs.Wanted.{IsNotTaken, IsTaken as IsGiven, IsWanted, may_decide, wanted_by, wanted_for}
+use Rattle.command_card.specs.Wanted.{IsNotTaken, IsTaken as IsGiven, IsWanted, forgotten_by, may_decide, wanted_by, wanted_for}
 use Rattle.card_c.specs.declared.card_side.CardSide.{CardSide}
 use Rattle.card_c.specs.declared.card_side.CardSide.TheVariants.{Own, OwnAtT1}
 use Rattle.card_c.specs.declared.command_record.CommandRecord.{CommandRecord}
@@ -212,11 +212,12 @@ OwnReceives bytes before n (Own own) code new = (next : OwnSide) × (new ≡ Own
     × Freely (OwnReceivesAll bytes n) (n ≡ before) own code next
 OwnReceives bytes before n side code new = (code ≡ gt_state) × (new ≡ side) × (n ≡ before)
 
--- The card is reset. What waits is dropped, and so is a response that did not settle; the plans
--- stay.
+-- The card is reset. What waits is dropped, and so is a response that did not settle, or that the
+-- card still held; the plans stay.
 abbrev pub OwnResetsOne : EndOf OwnCard → Cursor → ℤ → OwnSide → Type 0
 OwnResetsOne end plans code new = (code ≡ gt_ok) × (new.plans ≡ plans)
     × (new.whole ≡ whole.Nothing) × (new.asked.items ≡ [])
+    × (new.end.card.app.given ≡ None) × (new.end.card ≡ forgotten_by new.end.card)
     × (own_card.standing new.end.card ≡ own_card.after_reset (own_card.standing end.card))
     × (new.end.stage ≡ Taking_header [])
     × ((first : CardState GivenState) (events : List Event) → OwnLed first events end

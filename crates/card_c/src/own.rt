@@ -7,7 +7,7 @@ use crate::card_buffers::hand_run;
 use crate::card_side::CardSide;
 use crate::code;
 use crate::own_side::{OwnSide, Whole};
-use command_card::{CommandCard, Given, Wanted, wanted_next};
+use command_card::{CommandCard, Given, Wanted, forget, wanted_next};
 use t0_core::{CardEnd, LineFault, PlanQueue, Turn};
 
 /// The procedure byte that asks the terminal to wait (ISO/IEC 7816-3, 10.3.3).
@@ -256,5 +256,6 @@ fn reset_one(own: &mut OwnSide) -> i32
 {
     own.drop_whole();
     own.end.reset();
+    forget(&mut own.end);
     code::OK
 }

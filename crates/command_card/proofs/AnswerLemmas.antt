@@ -5,7 +5,7 @@ use Rattle.std.proofs.lemmas.List.{drop-drop, drop-take, take-take, take_rest}
 use Rattle.std.specs.Prelude.{if◌then◌else◌, ◌==◌, ◌&&◌, SomeIff}
 use Rattle.apdu_core.specs.declared.header.Header.{Header}
 use Rattle.apdu_core.specs.StatusWord.{StatusWord, count}
-use Rattle.t0_core.specs.Meaning.{Ask, Tpdu, Decides, refused, taken_with, answered_with, IsSending}
+use Rattle.t0_core.specs.Meaning.{Ask, Tpdu, Decides, refused, taken_with, answered_with}
 use Rattle.t0_core.specs.CardContract.{Judges, IsRefusal, Permits}
 use Rattle.t0_core.specs.DataRun.{IsRunAt}
 use Rattle.t0_core.specs.declared.tpdu_card.Verdict.{Verdict}
@@ -17,9 +17,8 @@ use Rattle.command_card.specs.declared.ready.Ready.{Ready}
 use Rattle.command_card.specs.declared.ready.Ready.TheVariants as ready
 use Rattle.command_card.specs.Carrying.{Did, Makes, asking, taking}
 use Rattle.command_card.specs.State.{CardState, Hand, For_repeat, Outcome, announcing, fetch_left, handed, is_fetch, pending_for, refusing, same_header}
-use Rattle.command_card.specs.Meaning.{Answers, Brings, CarriesAsked, CarriesTaken, Does, DoesBy, Kind, kind_in, kind_of, Invalid, Unfetched, Takes, Asks, Hands}
-use Rattle.command_card.specs.View.{left_of, state_of, state_after, buffer_of, ask_of, prepared_of, IsReady, IsEnded, Prepares, MayReceive, MaySend, WaitsFor}
-use Rattle.command_card.specs.Wanted.{is_free}
+use Rattle.command_card.specs.Meaning.{Answers, Brings, CarriesAsked, CarriesTaken, Does, DoesBy, Kind, kind_in, kind_of, Takes, Asks, Hands}
+use Rattle.command_card.specs.View.{left_of, state_of, state_after, buffer_of, ask_of, prepared_of, IsReady, Prepares, MayReceive, MaySend, WaitsFor}
 use Rattle.command_card.proofs.HandLemmas.{count_some}
 
 pub kind_by : (v w : Bool) (p q : Option Hand) (f g t u : Bool) → v ≡ w → p ≡ q → f ≡ g → t ≡ u
@@ -31,12 +30,6 @@ pub made_is : {T : Type 0} (o : Option T) (P : Type 0) (parts value : T) → Som
     → o ≡ Some value → value ≡ parts
 made_is o P parts value made is =
     let Q = λ (x : Option _). SomeIff x P parts in (subst Q is made).1
-
-pub is_nothing : (r : Ready) → is_free r ≡ true → r ≡ ready.Nothing
-is_nothing ready.Nothing is = refl
-is_nothing (ready.Receives h p3 cut) is = absurd (cc)
-is_nothing (ready.Sends h p3 cut from status ending) is = absurd (cc)
-is_nothing (ready.Leaves ending) is = absurd (cc)
 
 pub refusal_is : (v : Verdict) (status : StatusWord) → v ≡ Refuse status → IsRefusal v
 refusal_is v status is = subst IsRefusal (sym is) tt
@@ -207,54 +200,30 @@ module _ {S : Type 0} (takes : S → Header → Bool) (Act : S → Did → S →
                 }) refl,
           )
 
-  -- the status after the bytes is the answer
-  pub ended : (app next : S) (kept fresh : List ℕ) (w : Waiting) (r : Ready)
-      (status : StatusWord) (after : Ready) → IsReady takes Act app next kept fresh w r
-      → IsEnded r status after
-      → IsSending (prepared_of app next kept fresh r) (λ ask bytes. Decides (Does takes Act)
-      (state_of app kept w) ask.cut (answered_with ask bytes status)
-      (prepared_of app next kept fresh after))
-  ended app next kept fresh w (ready.Sends h p3 cut from last ending) status after fits
-      (status_is, after_is) =
-      let new : CardState S = state_after app next kept fresh ending in
-      let bytes : List ℕ = take (count p3) (drop from (buffer_of ending.fresh kept fresh)) in
-      let P : StatusWord → Ready → Type 0 = λ s r. Decides (Does takes Act) (state_of app kept w)
-      cut (answered_with (ask_of h p3 cut) bytes s) (prepared_of app next kept fresh r) in
-      subst (λ r. P status r) (sym after_is)
-      (subst (λ s. P s (ready.Leaves ending)) (sym status_is) (new, refl, fits))
-  ended _ _ _ _ _ _ _ _ _ never = absurd never
-
 -- ---- data move only under headers for which they may
 
 -- the header of a command that takes data
 takes_kind : (v : Bool) (p : Option Hand) (fetches takes : Bool)
     → kind_of v p fetches takes ≡ Takes → (fetches ≡ false) × (takes ≡ true)
-takes_kind false p f t e = absurd (cc)
-takes_kind true (Some hand) f t e = absurd (cc)
-takes_kind true None true t e = absurd (cc)
 takes_kind true None false true e = (refl, refl)
-takes_kind true None false false e = absurd (cc)
+takes_kind v p f t e = absurd (cc)
 
 asks_kind : (v : Bool) (p : Option Hand) (fetches takes : Bool)
     → kind_of v p fetches takes ≡ Asks → takes ≡ false
-asks_kind false p f t e = absurd (cc)
-asks_kind true (Some hand) f t e = absurd (cc)
-asks_kind true None true t e = absurd (cc)
-asks_kind true None false true e = absurd (cc)
 asks_kind true None false false e = refl
+asks_kind v p f t e = absurd (cc)
 
 hands_kind : (v : Bool) (p : Option Hand) (fetches takes : Bool) (hand : Hand)
     → kind_of v p fetches takes ≡ Hands hand → p ≡ Some hand
-hands_kind false p f t hand e = absurd (cc)
 hands_kind true (Some other) f t hand e = cc
+hands_kind false p f t hand e = absurd (cc)
 hands_kind true None true t hand e = absurd (cc)
 hands_kind true None false true hand e = absurd (cc)
 hands_kind true None false false hand e = absurd (cc)
 
 pub both_true : (a b : Bool) → (a && b) ≡ true → (a ≡ true) × (b ≡ true)
 both_true true true e = (refl, refl)
-both_true true false e = absurd (cc)
-both_true false b e = absurd (cc)
+both_true a b e = absurd (cc)
 
 pub headers_same : (g h : Header) → same_header g h ≡ true → g ≡ h
 headers_same g h e =
@@ -303,15 +272,11 @@ module _ {S : Type 0} (takes : S → Header → Bool) (Act : S → Did → S →
       → ((hand : Hand) → pending_for old.left t.header t.p3 ≡ Some hand
       → MaySend takes t.header)
       → MaySend takes t.header
-  may_send old new cut t Invalid kind does some waits =
-      absurd (omega (arith, some, ap length does.brings.received_is))
-  may_send old new cut t Unfetched kind does some waits =
-      absurd (omega (arith, some, ap length does.brings.received_is))
-  may_send old new cut t Takes kind does some waits =
-      absurd (omega (arith, some, ap length does.brings.received_is))
   may_send old new cut t Asks kind does some waits = inr (old.app, asks_kind _ _ _ _ kind)
   may_send old new cut t (Hands hand) kind does some waits =
       waits hand (hands_kind _ _ _ _ hand kind)
+  may_send old new cut t other kind does some waits =
+      absurd (omega (arith, some, ap length does.brings.received_is))
 
   pub permits : (app next : S) (kept fresh : List ℕ) (w : Waiting) (h : Header) (p3 cut : ℕ)
       (v : Verdict) (r : Ready) → ((again : Header) → WaitsFor w again → MaySend takes again)
@@ -323,10 +288,6 @@ module _ {S : Type 0} (takes : S → Header → Bool) (Act : S → Did → S →
   permits app next kept fresh w h p3 cut Receive (ready.Receives g q c) waits is fits =
       let kind = takes_kind _ _ _ _ fits.0 in
       subst (MayReceive takes) (ap (λ (a : Ask). a.header) is) (kind.0, app, kind.1)
-  permits app next kept fresh w h p3 cut Receive ready.Nothing waits never fits = absurd never
-  permits app next kept fresh w h p3 cut Receive (ready.Sends _ _ _ _ _ _) waits never fits =
-      absurd never
-  permits app next kept fresh w h p3 cut Receive (ready.Leaves _) waits never fits = absurd never
   permits app next kept fresh w h p3 cut Send (ready.Sends g q c from status ending) waits
       (is, long) fits =
       let t : Tpdu = answered_with (ask_of g q c)
@@ -341,7 +302,4 @@ module _ {S : Type 0} (takes : S → Header → Bool) (Act : S → Did → S →
       (may_send (state_of app kept w) (state_after app next kept fresh ending) c t
       (kind_in takes (state_of app kept w) g q) refl fits
       (omega (arith, long, count_some p3)) hands)
-  permits app next kept fresh w h p3 cut Send ready.Nothing waits never fits = absurd never
-  permits app next kept fresh w h p3 cut Send (ready.Receives _ _ _) waits never fits =
-      absurd never
-  permits app next kept fresh w h p3 cut Send (ready.Leaves _) waits never fits = absurd never
+  permits _ _ _ _ _ _ _ _ _ _ _ never _ = absurd never

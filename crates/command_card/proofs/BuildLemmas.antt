@@ -26,8 +26,8 @@ use Rattle.command_card.specs.Meaning.{Answers, Asks, Brings, CarriesAsked, Carr
 use Rattle.command_card.specs.Told.{AreAgreed, told, unwanted_part, wanted_part}
 use Rattle.command_card.specs.Alike.{GathersAtT0}
 use Rattle.command_card.proofs.HandLemmas.{enough, fewer, handed_enough, handed_fewer}
-use Rattle.command_card.proofs.AnswerLemmas.{same_as_itself}
-use Rattle.command_card.proofs.WholeLemmas.{Among, AreAmong, Fits, all_of, count_of_byte, count_told, end_facts, fetch_facts, fits_le, fits_none, is_repeated, kind_by, last_part, more_part, no_bytes, none_corrected, not_repeated, own_status, plain_is, sent_if, take_whole, drop_whole, wants_fewer}
+use Rattle.command_card.proofs.AnswerLemmas.{kind_by, same_as_itself}
+use Rattle.command_card.proofs.WholeLemmas.{Among, AreAmong, Fits, all_of, count_of_byte, count_told, end_facts, fetch_facts, fits_le, fits_none, is_repeated, last_part, more_part, no_bytes, none_corrected, not_repeated, own_status, plain_is, sent_if, take_whole, drop_whole, wants_fewer}
 
 -- the plan of the next TPDU, and those after it
 abbrev pub head_of : List Course → Course

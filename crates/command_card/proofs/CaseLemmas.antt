@@ -18,10 +18,11 @@ use Rattle.card_terminal.specs.Gathered.{AreFollowed, By_command, Gathers, IsUni
 use Rattle.command_card.specs.Carrying.{Did, Makes, asking}
 use Rattle.command_card.specs.State.{CardState, For_repeat, Nothing_left, Outcome, announcing, handed, is_fetch, pending_for}
 use Rattle.command_card.specs.Meaning.{Asks, Brings, CarriesAsked, Does, DoesBy, kind_in}
-use Rattle.command_card.specs.AtT1.{Carries, CarriesTold, HandsOut, Responds, RespondsBy, status_bytes}
+use Rattle.command_card.specs.AtT1.{Carries, CarriesTold, HandsOut, Responds, RespondsBy, shown, status_bytes}
 use Rattle.command_card.specs.Alike.{GathersAtT0, IsCase1}
 use Rattle.command_card.proofs.HandLemmas.{handed_enough, handed_fewer}
-use Rattle.command_card.proofs.WholeLemmas.{kind_by, own_status}
+use Rattle.command_card.proofs.AnswerLemmas.{kind_by}
+use Rattle.command_card.proofs.WholeLemmas.{own_status}
 use Rattle.command_card.proofs.GatherLemmas.{tail_same}
 use Rattle.command_card.proofs.BuildLemmas.{dialogue_so, follow_more, follows_so, head_of, made, runs_more}
 
@@ -126,7 +127,7 @@ module _ {S : Type 0} (takes : S → Header → Bool) (Act : S → Did → S →
       (sym ended)
       (subst (λ v. RespondsBy takes Act first (bare h) (status_bytes d.status) mid v)
       (sym no_fetch)
-      (subst (λ v. CarriesTold Act first (bare h) (status_bytes d.status) mid v [] None)
+      (subst (λ v. CarriesTold Act first (bare h) (status_bytes d.status) mid (shown v h [] None))
       (sym takes_none) carries))
 
   abbrev Alone : Header → CardState S → CardState S → List ℕ → StatusWord → Type 0
@@ -181,10 +182,10 @@ module _ {S : Type 0} (takes : S → Header → Bool) (Act : S → Did → S →
       → announces status ≡ None → Responds takes Act first (bare h) (status_bytes status) last
       → GathersAtT0 takes Act plans first (bare h) [] status last
   to_bare h first last plans status valid no_fetch takes_none none word no_more responds =
+      let said = status_bytes status in
       let k : Carries Act first (asking h 256) 0 (status_bytes status) last =
-      subst (λ v. CarriesTold Act first (bare h) (status_bytes status) last v [] None) takes_none
-      (subst (λ v. RespondsBy takes Act first (bare h) (status_bytes status) last v) no_fetch
-      responds) in
+      subst (λ v. CarriesTold Act first (bare h) said last (shown v h [] None)) takes_none
+      (subst (λ v. RespondsBy takes Act first (bare h) said last v) no_fetch responds) in
       let (none_is, status_is, left_is) = alone h k.bytes k.status status last.left k.hands
       no_more in
       let own = own_status Act first.app _ k.bytes k.status last.app k.makes in

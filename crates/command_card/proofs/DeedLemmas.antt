@@ -1,11 +1,10 @@
 -- What an application has been through, by what happened on the line.
-use Rattle.std.proofs.Common.{◌≡◌, ◌∙◌, ℕ, ◌<◌, ◌≤◌, List, [], ◌∷◌, length, drop, Option, Some, None, Bool, true, false, ◌⊎◌, inl, inr, refl, sym, ap, subst, arith, eq-eqb}
+use Rattle.std.proofs.Common.{◌≡◌, ◌∙◌, ℕ, ◌<◌, ◌≤◌, List, [], ◌∷◌, length, drop, Option, Some, None, Bool, true, false, inl, inr, refl, sym, ap, subst, arith, eq-eqb}
 use Rattle.std.specs.Prelude.{if◌then◌else◌, ◌==◌, ◌&&◌, nat_lt}
 use Rattle.std.proofs.lemmas.Bool.{and_from, eqb-true, ltb-true, ltb-false, true≢false}
 use Rattle.command_card.proofs.AnswerLemmas.{both_true, headers_same, same_as_itself}
 use Rattle.apdu_core.specs.declared.header.Header.{Header}
 use Rattle.apdu_core.specs.HeaderBytes.{ins_is_valid}
-use Rattle.apdu_core.specs.CommandBytes.{Command}
 use Rattle.apdu_core.specs.StatusWord.{StatusWord, corrects, count}
 use Rattle.t0_core.specs.CardHistory.{Leads}
 use Rattle.t0_core.specs.CardSide.{Stage}
@@ -13,10 +12,11 @@ use Rattle.t0_core.specs.Front.{front_characters}
 use Rattle.t0_core.specs.History.{Event, Item, Whole, Cut_off, RunsOver}
 use Rattle.t0_core.specs.Meaning.{Prepared, Tpdu, tpdu_of}
 use Rattle.t0_core.specs.Plan.{IsCut}
-use Rattle.command_card.specs.Carrying.{Did, Makes, asking, taking}
+use Rattle.command_card.specs.Carrying.{Did}
 use Rattle.command_card.specs.State.{CardState, For_fetch, For_repeat, Hand, Left, Nothing_left, Outcome, announcing, fetch_left, handed, is_fetch, pending_for, refusing, same_header}
 use Rattle.command_card.specs.Meaning.{Answers, Does, DoesBy, kind_of}
 use Rattle.command_card.proofs.HandLemmas.{handed_enough, handed_fewer}
+use Rattle.command_card.proofs.WholeLemmas.{count_of_byte, own_status}
 use Rattle.command_card.specs.View.{after_reset}
 use Rattle.command_card.specs.Deeds.{GoesThrough, IsCarriedOut, IsThrough, IsWithout, Repeats, StepsBy}
 
@@ -40,13 +40,6 @@ fetched_said [] status cut t own is =
     λ other. subst (λ (s : StatusWord). corrects s ≡ None) (sym is) own
 fetched_said (b ∷ bytes) status cut t own is =
     (λ other. subst (λ (s : StatusWord). corrects s ≡ None) (sym is) refl, own)
-
-made_own : {S : Type 0} (Act : S → Did → S → Type 0) (old : S) (c : Command)
-    (response : List ℕ) (status : StatusWord) (new : S) → Makes Act old c response status new
-    → corrects status ≡ None
-made_own Act old c response status new (inl made) = made.1.1
-made_own Act old c response status new (inr gave) =
-    subst (λ (s : StatusWord). corrects s ≡ None) (sym gave.2) refl
 
 -- after 6CXX the same header with that P3 finds the response
 never_repeats : (left : Left) (before : Option Tpdu) (t : Tpdu) → IsSaid left before
@@ -74,13 +67,6 @@ never_repeats (For_repeat g bytes status) (Some u) t ((v, v_is, g_is, counts), o
     sym none ∙ ap (λ (w : Bool). if w then it else None) finds in
     absurd (cc)
 
-count_of_some : (n : ℕ) → 1 ≤ n → count n ≡ n
-count_of_some n some = split (n == 0) refl
-  where
-    split : (v : Bool) → (n == 0) ≡ v → (if v then 256 else n) ≡ n
-    split true e = absurd (omega (arith, some, eqb-true n 0 e))
-    split false e = refl
-
 -- what is handed over keeps `kept` only if there is less than was asked for
 handed_said : (kept : Left) (bytes : List ℕ) (status : StatusWord) (n cut : ℕ) (t : Tpdu)
     → corrects status ≡ None → t.status ≡ (handed kept bytes status n cut).status
@@ -106,11 +92,11 @@ handed_said kept (b ∷ bytes) status n cut t own is said =
         (fetched_said (drop n (b ∷ bytes)) status cut t own
         (is ∙ ap (λ (o : Outcome). o.status) it))
 
-some_bytes : (a b : Hand) → Some a ≡ Some b → a.bytes ≡ b.bytes
-some_bytes a b e = let same : a ≡ b = cc in ap (λ (h : Hand). h.bytes) same
-
-some_status : (a b : Hand) → Some a ≡ Some b → a.status ≡ b.status
-some_status a b e = let same : a ≡ b = cc in ap (λ (h : Hand). h.status) same
+-- the response that was looked for
+found : (v : Bool) (it hand : Hand) → (if v then Some it else None) ≡ Some hand
+    → (v ≡ true) × (it ≡ hand)
+found true it hand e = (refl, cc)
+found false it hand e = absurd (cc)
 
 -- a header of the application's own is a command
 is_command : (before : Option Tpdu) (t : Tpdu) → ins_is_valid t.header.ins ≡ true
@@ -143,68 +129,46 @@ module _ {S : Type 0} (takes : S → Header → Bool) (Act : S → Did → S →
       → Tells old before t new
   hand_tells Nothing_left old new before cut t hand said pending is = absurd (cc)
   hand_tells (For_fetch bytes status) old new before cut t hand said pending is =
-      split (is_fetch t.header) refl
-    where
-      split : (v : Bool) → is_fetch t.header ≡ v → Tells old before t new
-      split true e =
-          let it : Option Hand = Some (record { bytes = bytes; status = status }) in
-          let this : Some (record { bytes = bytes; status = status }) ≡ Some hand =
-          subst (λ (v : Bool). (if v then it else None) ≡ Some hand) e pending in
-          let own : corrects hand.status ≡ None =
-          subst (λ (s : StatusWord). corrects s ≡ None)
-          (some_status (record { bytes = bytes; status = status }) hand this) said.1 in
-          record {
-            steps = inl (inr (inl e), is.same);
-            said = subst (λ l. IsSaid l (Some t)) (sym is.brings.left_is)
-                (handed_said (For_fetch bytes status) hand.bytes hand.status (count t.p3) cut t own
-                is.brings.status_is (λ some few six. (
-                  λ other. absurd (true≢false (sym e ∙ other)),
-                  said.1,
-                )));
-          }
-      split false e =
-          let it : Option Hand = Some (record { bytes = bytes; status = status }) in
-          let no : None ≡ Some hand =
-          subst (λ (v : Bool). (if v then it else None) ≡ Some hand) e pending in absurd (cc)
+      let (fetches, hand_is) = found (is_fetch t.header)
+      (record { bytes = bytes; status = status }) hand pending in
+      let own : corrects hand.status ≡ None =
+      subst (λ (h : Hand). corrects h.status ≡ None) hand_is said.1 in
+      record {
+        steps = inl (inr (inl fetches), is.same);
+        said = subst (λ l. IsSaid l (Some t)) (sym is.brings.left_is)
+            (handed_said (For_fetch bytes status) hand.bytes hand.status (count t.p3) cut t own
+            is.brings.status_is (λ some few six. (
+              λ other. absurd (true≢false (sym fetches ∙ other)),
+              said.1,
+            )));
+      }
   hand_tells (For_repeat g bytes status) old new before cut t hand said pending is =
-      split (same_header g t.header && (length bytes == t.p3)) refl
-    where
-      split : (v : Bool) → (same_header g t.header && (length bytes == t.p3)) ≡ v
-          → Tells old before t new
-      split true e =
-          let (header_is, p3_is) = both_true _ _ e in
-          let same = headers_same g t.header header_is in
-          let long = eqb-true (length bytes) t.p3 p3_is in
-          let it : Option Hand = Some (record { bytes = bytes; status = status }) in
-          let this : Some (record { bytes = bytes; status = status }) ≡ Some hand =
-          subst (λ (v : Bool). (if v then it else None) ≡ Some hand) e pending in
-          let hand_is : bytes ≡ hand.bytes =
-          some_bytes (record { bytes = bytes; status = status }) hand this in
-          let own : corrects hand.status ≡ None =
-          subst (λ (s : StatusWord). corrects s ≡ None)
-          (some_status (record { bytes = bytes; status = status }) hand this) said.1 in
-          let (u, before_is, u_header, u_told) = said.0 in
-          let repeats : Repeats before t =
-          subst (λ b. Repeats b t) (sym before_is)
-          (u_header ∙ same, u_told ∙ ap (λ n. Some n) long) in
-          record {
-            steps = inl (inr (inr repeats), is.same);
-            said = subst (λ l. IsSaid l (Some t)) (sym is.brings.left_is)
-                (handed_said (For_repeat g bytes status) hand.bytes hand.status (count t.p3) cut t
-                own is.brings.status_is
-                (λ some few six. absurd (omega (
-                  arith,
-                  some,
-                  few,
-                  ap length hand_is,
-                  long,
-                  count_of_some t.p3 (omega (arith, some, ap length hand_is, long)),
-                ))));
-          }
-      split false e =
-          let it : Option Hand = Some (record { bytes = bytes; status = status }) in
-          let no : None ≡ Some hand =
-          subst (λ (v : Bool). (if v then it else None) ≡ Some hand) e pending in absurd (cc)
+      let (finds, hand_is) = found (same_header g t.header && (length bytes == t.p3))
+      (record { bytes = bytes; status = status }) hand pending in
+      let (header_is, p3_is) = both_true _ _ finds in
+      let long = eqb-true (length bytes) t.p3 p3_is in
+      let own : corrects hand.status ≡ None =
+      subst (λ (h : Hand). corrects h.status ≡ None) hand_is said.1 in
+      let (u, before_is, u_header, u_told) = said.0 in
+      let repeats : Repeats before t =
+      subst (λ b. Repeats b t) (sym before_is)
+      (u_header ∙ headers_same g t.header header_is, u_told ∙ ap (λ n. Some n) long) in
+      let same : length bytes ≡ length hand.bytes =
+      ap (λ (h : Hand). length h.bytes) hand_is in
+      record {
+        steps = inl (inr (inr repeats), is.same);
+        said = subst (λ l. IsSaid l (Some t)) (sym is.brings.left_is)
+            (handed_said (For_repeat g bytes status) hand.bytes hand.status (count t.p3) cut t own
+            is.brings.status_is
+            (λ some few six. absurd (omega (
+              arith,
+              some,
+              few,
+              same,
+              long,
+              count_of_byte t.p3 (omega (arith, some, same, long)),
+            ))));
+      }
 
   tells : (old new : CardState S) (before : Option Tpdu) (cut : ℕ) (t : Tpdu) → IsCut cut
       → IsSaid old.left before → Does takes Act old cut t new → Tells old before t new
@@ -238,11 +202,12 @@ module _ {S : Type 0} (takes : S → Header → Bool) (Act : S → Did → S →
         );
         said = subst (λ l. IsSaid l (Some t)) (sym is.brings.left_is)
             (fetched_said is.response is.status cut t
-            (made_own Act old.app _ is.response is.status new.app is.makes) is.brings.status_is);
+            (own_status Act old.app _ is.response is.status new.app is.makes).1
+            is.brings.status_is);
       }
       by true None false false valid pending fetch takes_is is =
           let kept : Left = For_repeat t.header is.response is.status in
-          let own = made_own Act old.app _ is.response is.status new.app is.makes in record {
+          let own = (own_status Act old.app _ is.response is.status new.app is.makes).1 in record {
             steps = inr (
               is_command before t valid fetch (never_repeats old.left before t said pending fetch),
               subst (λ k. IsCarriedOut Act k old.app t new.app) (sym takes_is) (record {
@@ -264,7 +229,7 @@ module _ {S : Type 0} (takes : S → Header → Bool) (Act : S → Did → S →
                     refl,
                     refl,
                     ap (λ s. corrects s) six
-                        ∙ ap (λ n. Some n) (count_of_some (length is.response) some),
+                        ∙ ap (λ n. Some n) (count_of_byte (length is.response) some),
                   ),
                   own,
                 )));

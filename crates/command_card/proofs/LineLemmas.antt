@@ -11,9 +11,9 @@ use Rattle.card_terminal.specs.Gathered.{UnitOf, Gathers, dialogues_of}
 use Rattle.card_terminal.specs.Talk.{HaveCuts}
 use Rattle.command_card.specs.Meaning.{Does}
 use Rattle.command_card.proofs.WholeLemmas.{gathers_the_response}
-use Rattle.command_card.specs.Carrying.{Did, Makes, taking}
+use Rattle.command_card.specs.Carrying.{Did, Makes}
 use Rattle.command_card.specs.State.{CardState, Nothing_left, announcing, fetch_left}
-use Rattle.command_card.specs.AtT1.{Carries, CarriesTold, HandsOut, Responds, RespondsBy, may_bring, status_bytes}
+use Rattle.command_card.specs.AtT1.{Carries, CarriesTold, HandsOut, Responds, RespondsBy, may_bring, shown, status_bytes}
 use Rattle.command_card.specs.Told.{AreAgreed, IsOneStep, told}
 
 module _ {S : Type 0} (takes : S → Header → Bool) (Act : S → Did → S → Type 0) where
@@ -27,39 +27,17 @@ module _ {S : Type 0} (takes : S → Header → Bool) (Act : S → Did → S →
         left_is = ap (λ xs. fetch_left xs status) (sym none);
       }
 
-  taken_so : (first new : CardState S) (c : Command) (response bytes : List ℕ)
-      (status : StatusWord) (content : List ℕ) → c.content ≡ content
-      → Makes Act first.app (taking c.header c.content) bytes status new.app
-      → HandsOut bytes status (may_bring c.le) response new.left
-      → Carries Act first (taking c.header content) (may_bring c.le) response new
-  taken_so first new c response bytes status content is makes hands = record {
-    bytes = bytes;
-    status = status;
-    makes = subst (λ xs. Makes Act first.app (taking c.header xs) bytes status new.app) is makes;
-    hands = hands;
-  }
-
-  by_takes : (first new : CardState S) (c : Command) (response bytes : List ℕ)
-      (status : StatusWord) (v : Bool) (content : List ℕ) (le : Option ℕ)
-      → c.content ≡ content → (v ≡ false → content ≡ [])
-      → (v ≡ true → content ≡ [] → le ≡ None)
-      → Makes Act first.app (told v c) bytes status new.app
-      → HandsOut bytes status (may_bring c.le) response new.left
-      → CarriesTold Act first c response new v content le
-  by_takes first new c response bytes status true [] (Some n) is none no_le makes hands =
+  -- a command of the application's own is shown to it
+  is_shown : (v : Bool) (h : Header) (content : List ℕ) (le : Option ℕ)
+      → (v ≡ false → content ≡ []) → (v ≡ true → content ≡ [] → le ≡ None)
+      → shown v h content le ≡ Some (told v (record { header = h; content = content; le = le }))
+  is_shown true h [] (Some n) none no_le =
       let no : Some n ≡ None = no_le refl refl in absurd (cc)
-  by_takes first new c response bytes status true [] None is none no_le makes hands =
-      taken_so first new c response bytes status [] is makes hands
-  by_takes first new c response bytes status true (b ∷ content) le is none no_le makes hands
-      = taken_so first new c response bytes status (b ∷ content) is makes hands
-  by_takes first new c response bytes status false [] le is none no_le makes hands = record {
-    bytes = bytes;
-    status = status;
-    makes = makes;
-    hands = hands;
-  }
-  by_takes first new c response bytes status false (b ∷ content) le is none no_le makes hands
-      = let no : b ∷ content ≡ [] = none refl in absurd (cc)
+  is_shown false h (b ∷ content) le none no_le =
+      let no : b ∷ content ≡ [] = none refl in absurd (cc)
+  is_shown true h [] None none no_le = refl
+  is_shown true h (b ∷ content) le none no_le = refl
+  is_shown false h [] le none no_le = refl
 
   -- one step is a response, for any Le
   pub hands_so : (first new : CardState S) (c : Command) (bytes : List ℕ) (status : StatusWord)
@@ -68,9 +46,11 @@ module _ {S : Type 0} (takes : S → Header → Bool) (Act : S → Did → S →
       → HandsOut bytes status (may_bring c.le) response new.left
       → Responds takes Act first c response new
   hands_so first new c bytes status response agreed makes hands =
+      let carries : Carries Act first (told (takes first.app c.header) c) (may_bring c.le)
+      response new = record { bytes = bytes; status = status; makes = makes; hands = hands } in
       subst (λ v. RespondsBy takes Act first c response new v) (sym agreed.no_fetch)
-      (by_takes first new c response bytes status (takes first.app c.header) c.content c.le refl
-      agreed.no_data agreed.no_le makes hands)
+      (subst (λ o. CarriesTold Act first c response new o) (sym (is_shown (takes first.app c.header)
+      c.header c.content c.le agreed.no_data agreed.no_le)) carries)
 
   pub responds_so : (first : CardState S) (app : S) (c : Command) (bytes : List ℕ)
       (status : StatusWord) → c.le ≡ Some 256 → AreAgreed takes first c → length bytes ≤ 256
@@ -84,48 +64,20 @@ module _ {S : Type 0} (takes : S → Header → Bool) (Act : S → Did → S →
       (subst (λ (m : Option ℕ). HandsOut bytes status (may_bring m) response Nothing_left)
       (sym asks) (hands_all bytes status few))
 
-  taken_step : (old new : CardState S) (c : Command) (response content : List ℕ)
-      → takes old.app c.header ≡ true → c.content ≡ content
-      → Carries Act old (taking c.header content) (may_bring c.le) response new
-      → IsOneStep takes Act old c response new
-  taken_step old new c response content takes_is is carries = record {
-    bytes = carries.bytes;
-    status = carries.status;
-    makes = subst (λ v. Makes Act old.app (told v c) carries.bytes carries.status new.app)
-        (sym takes_is)
-        (subst (λ xs. Makes Act old.app (taking c.header xs) carries.bytes carries.status new.app)
-        (sym is) carries.makes);
-    hands = carries.hands;
-  }
-
-  told_by : (old new : CardState S) (c : Command) (response : List ℕ) (v : Bool)
-      (content : List ℕ) (le : Option ℕ) → takes old.app c.header ≡ v → c.content ≡ content
-      → (v ≡ false → content ≡ []) → (v ≡ true → content ≡ [] → le ≡ None)
-      → CarriesTold Act old c response new v content le
-      → IsOneStep takes Act old c response new
-  told_by old new c response true [] (Some n) takes_is is none no_le carries =
-      let no : Some n ≡ None = no_le refl refl in absurd (cc)
-  told_by old new c response true [] None takes_is is none no_le carries =
-      taken_step old new c response [] takes_is is carries
-  told_by old new c response true (b ∷ content) le takes_is is none no_le carries =
-      taken_step old new c response (b ∷ content) takes_is is carries
-  told_by old new c response false [] le takes_is is none no_le carries = record {
-    bytes = carries.bytes;
-    status = carries.status;
-    makes = subst (λ v. Makes Act old.app (told v c) carries.bytes carries.status new.app)
-        (sym takes_is) carries.makes;
-    hands = carries.hands;
-  }
-  told_by old new c response false (b ∷ content) le takes_is is none no_le carries =
-      let no : b ∷ content ≡ [] = none refl in absurd (cc)
-
   pub one_step : (old new : CardState S) (c : Command) (response : List ℕ)
       → AreAgreed takes old c → Responds takes Act old c response new
       → IsOneStep takes Act old c response new
   one_step old new c response agreed responds =
-      told_by old new c response (takes old.app c.header) c.content c.le refl refl
-      agreed.no_data agreed.no_le
-      (subst (λ v. RespondsBy takes Act old c response new v) agreed.no_fetch responds)
+      let it : Carries Act old (told (takes old.app c.header) c) (may_bring c.le) response new =
+      subst (λ o. CarriesTold Act old c response new o)
+      (is_shown (takes old.app c.header) c.header c.content c.le agreed.no_data agreed.no_le)
+      (subst (λ v. RespondsBy takes Act old c response new v) agreed.no_fetch responds) in
+      record {
+        bytes = it.bytes;
+        status = it.status;
+        makes = it.makes;
+        hands = it.hands;
+      }
 
 pub from_exchange : {S : Type 0} (takes : S → Header → Bool) (Act : S → Did → S → Type 0)
     (first last : CardState S) (c : Command) (units : List UnitOf) (plans : List Course)

@@ -20,7 +20,8 @@ use Rattle.card_terminal.specs.Gathered.{AreFollowed, Asks as AsksBy, By_command
 use Rattle.card_terminal.specs.Talk.{HaveCuts}
 use Rattle.command_card.specs.Carrying.{Did, IsOwn, Makes, asking, taking}
 use Rattle.command_card.specs.State.{CardState, For_repeat, Hand, Nothing_left, Outcome, announcing, fetch_left, handed, pending_for, same_header}
-use Rattle.command_card.specs.Meaning.{Answers, Asks, Brings, CarriesAsked, CarriesTaken, Does, DoesBy, Hands, Takes, kind_in, kind_of}
+use Rattle.command_card.specs.Meaning.{Answers, Asks, Brings, CarriesAsked, CarriesTaken, Does, DoesBy, Hands, Takes, kind_in}
+use Rattle.command_card.proofs.AnswerLemmas.{kind_by, same_as_itself}
 use Rattle.command_card.proofs.HandLemmas.{enough, handed_enough, handed_fewer}
 use Rattle.command_card.specs.Told.{AreAgreed, GathersPart, IsCutOf, told, unwanted_part, wanted_part}
 
@@ -194,17 +195,6 @@ count_is p n is few = split (p == 0) refl
         let big : 256 ≡ n = subst (λ (v : Bool). (if v then 256 else p) ≡ n) e is in
         absurd (omega (arith, big, few))
     split false e = subst (λ (v : Bool). (if v then 256 else p) ≡ n) e is
-
-same_as_itself : (h : Header) → same_header h h ≡ true
-same_as_itself h =
-    let a = eq-eqb h.cla h.cla refl in
-    let b = eq-eqb h.ins h.ins refl in
-    let c = eq-eqb h.p1 h.p1 refl in
-    let d = eq-eqb h.p2 h.p2 refl in rw (a, b, c, d) refl
-
-pub kind_by : (v w : Bool) (p q : Option Hand) (f g t u : Bool) → v ≡ w → p ≡ q → f ≡ g → t ≡ u
-    → kind_of v p f t ≡ kind_of w q g u
-kind_by v w p q f g t u a b c d = cc
 
 pub take_whole : (xs : List ℕ) → take (length xs) xs ≡ xs
 take_whole xs = take_all (length xs) xs (omega arith)

@@ -6,7 +6,7 @@ use Rattle.apdu_core.specs.CommandBytes.{Command, IsCommand, HasForm, HasInvalid
 use Rattle.apdu_core.specs.StatusWord.{StatusWord}
 use Rattle.t1_core.specs.CardSide.{Did as Done, no_requests}
 use Rattle.command_card.specs.Carrying.{Did, Makes, asking, taking}
-use Rattle.command_card.specs.State.{CardState, Left, Nothing_left, For_fetch, For_repeat, announcing, fetch_left, is_fetch}
+use Rattle.command_card.specs.State.{CardState, Left, Nothing_left, For_fetch, announcing, fetch_left, is_fetch}
 
 abbrev pub status_bytes : StatusWord → List ℕ
 status_bytes sw = sw.0 ∷ sw.1 ∷ []
@@ -31,10 +31,9 @@ pub record Refuses {S : Type 0} (sw : StatusWord) (old : CardState S) (response 
 
 -- a GET RESPONSE: 6985 if nothing waits for it
 abbrev pub Fetches : {S : Type 0} → CardState S → ℕ → List ℕ → CardState S → Left → Type 0
-Fetches old n response new Nothing_left = Refuses (0x69, 0x85) old response new
 Fetches old n response new (For_fetch bytes status) =
     (new.app ≡ old.app) × HandsOut bytes status n response new.left
-Fetches old n response new (For_repeat header bytes status) = Refuses (0x69, 0x85) old response new
+Fetches old n response new other = Refuses (0x69, 0x85) old response new
 
 -- one step of the application
 pub record Carries {S : Type 0} (Act : S → Did → S → Type 0) (old : CardState S) (c : Command)
@@ -44,24 +43,26 @@ pub record Carries {S : Type 0} (Act : S → Did → S → Type 0) (old : CardSt
   pub makes : Makes Act old.app c bytes status new.app
   pub hands : HandsOut bytes status n response new.left
 
--- The command as T=0 shows it. These get 6700: data for an application that takes none, and Le
--- without data for one that takes some.
+-- The command as T=0 shows it. None for data where the application takes none, and for Le without
+-- data where it takes some.
+abbrev pub shown : Bool → Header → List ℕ → Option ℕ → Option Command
+shown true h [] (Some n) = None
+shown true h [] None = Some (taking h [])
+shown true h (b ∷ bytes) le = Some (taking h (b ∷ bytes))
+shown false h [] le = Some (asking h (unwrap_or le 256))
+shown false h (b ∷ bytes) le = None
+
 abbrev pub CarriesTold : {S : Type 0} → (S → Did → S → Type 0) → CardState S → Command → List ℕ
-    → CardState S → Bool → List ℕ → Option ℕ → Type 0
-CarriesTold Act old c response new true [] (Some n) = Refuses (0x67, 0x00) old response new
-CarriesTold Act old c response new true [] None =
-    Carries Act old (taking c.header []) (may_bring c.le) response new
-CarriesTold Act old c response new true (b ∷ bytes) le =
-    Carries Act old (taking c.header (b ∷ bytes)) (may_bring c.le) response new
-CarriesTold Act old c response new false [] le =
-    Carries Act old (asking c.header (unwrap_or c.le 256)) (may_bring c.le) response new
-CarriesTold Act old c response new false (b ∷ bytes) le = Refuses (0x67, 0x00) old response new
+    → CardState S → Option Command → Type 0
+CarriesTold Act old c response new None = Refuses (0x67, 0x00) old response new
+CarriesTold Act old c response new (Some told) =
+    Carries Act old told (may_bring c.le) response new
 
 abbrev pub RespondsBy : {S : Type 0} → (S → Header → Bool) → (S → Did → S → Type 0) → CardState S
     → Command → List ℕ → CardState S → Bool → Type 0
 RespondsBy takes Act old c response new true = Fetches old (may_bring c.le) response new old.left
 RespondsBy takes Act old c response new false =
-    CarriesTold Act old c response new (takes old.app c.header) c.content c.le
+    CarriesTold Act old c response new (shown (takes old.app c.header) c.header c.content c.le)
 
 -- what a command does
 abbrev pub Responds : {S : Type 0} → (S → Header → Bool) → (S → Did → S → Type 0) → CardState S

@@ -43,12 +43,10 @@ with_answer s bytes status = record {
   handed = false;
 }
 
--- bit INS mod 8 of byte INS/8, the lowest bit first
-abbrev pub is_set : List ℕ → ℕ → Bool
-is_set bytes ins = (unwrap_or (slice_get bytes (ins / 8)) 0) / (2 ^ (ins % 8)) % 2 == 1
-
+-- in a table: bit INS mod 8 of byte INS/8, the lowest bit first
 abbrev pub go_to_card : Directions → ℕ → Bool
-go_to_card (Table bytes) ins = is_set bytes ins
+go_to_card (Table bytes) ins =
+    (unwrap_or (slice_get bytes (ins / 8)) 0) / (2 ^ (ins % 8)) % 2 == 1
 go_to_card Unknown ins = false
 go_to_card (Known to_card) ins = to_card
 
@@ -57,9 +55,8 @@ takes_data s h = go_to_card s.directions h.ins
 
 -- the answer about one header holds for that one only
 abbrev pub forgotten : Directions → Directions
-forgotten (Table bytes) = Table bytes
-forgotten Unknown = Unknown
 forgotten (Known to_card) = Unknown
+forgotten other = other
 
 abbrev pub settled : GivenState → GivenState
 settled s =

@@ -35,8 +35,7 @@ new_card app = record {
 -- nothing is kept if nothing is pending
 abbrev pub IsEmptied : Waiting → List ℕ → Type 0
 IsEmptied waiting.Nothing kept = kept ≡ []
-IsEmptied (waiting.Fetch from status) kept = Unit {0}
-IsEmptied (waiting.Repeat header status) kept = Unit {0}
+IsEmptied other kept = Unit {0}
 
 -- what is pending in this buffer
 abbrev pub left_of : List ℕ → Waiting → Left
@@ -77,24 +76,9 @@ prepared_of app next kept fresh (ready.Sends h p3 cut from status ending) =
 prepared_of app next kept fresh (ready.Leaves ending) =
     Decided (state_after app next kept fresh ending)
 
--- the bytes to send, and whether there are some
-abbrev pub bytes_of : List ℕ → List ℕ → Ready → List ℕ
-bytes_of kept fresh ready.Nothing = []
-bytes_of kept fresh (ready.Receives h p3 cut) = []
-bytes_of kept fresh (ready.Sends h p3 cut from status ending) =
-    take (count p3) (drop from (buffer_of ending.fresh kept fresh))
-bytes_of kept fresh (ready.Leaves ending) = []
-
-abbrev pub sends : Ready → Bool
-sends ready.Nothing = false
-sends (ready.Receives h p3 cut) = false
-sends (ready.Sends h p3 cut from status ending) = true
-sends (ready.Leaves ending) = false
-
 -- what is prepared suits the state
 abbrev pub IsReady : {S : Type 0} → (S → Header → Bool) → (S → Did → S → Type 0) → S → S → List ℕ
     → List ℕ → Waiting → Ready → Type 0
-IsReady takes Act app next kept fresh w ready.Nothing = Unit {0}
 IsReady takes Act app next kept fresh w (ready.Receives h p3 cut) =
     (kind_in takes (state_of app kept w) h p3 ≡ Takes) × (p3 ≤ 255) × (1 ≤ cut) × (cut ≤ 256)
 IsReady takes Act app next kept fresh w (ready.Sends h p3 cut from status ending) =
@@ -102,7 +86,7 @@ IsReady takes Act app next kept fresh w (ready.Sends h p3 cut from status ending
     (answered_with (ask_of h p3 cut)
     (take (count p3) (drop from (buffer_of ending.fresh kept fresh))) status)
     (state_after app next kept fresh ending)
-IsReady takes Act app next kept fresh w (ready.Leaves ending) = Unit {0}
+IsReady takes Act app next kept fresh w other = Unit {0}
 
 -- The verdict and what is prepared bring this outcome from this buffer.
 abbrev pub Prepares : List ℕ → Ask → Outcome → Bool → Bool → Verdict → Ready → Type 0
@@ -118,14 +102,6 @@ Prepares bytes ask o settles fresh Send r =
     × (o.received ≡ take (count ask.p3) (drop from bytes))
     × (length (take (count ask.p3) (drop from bytes)) ≡ count ask.p3)
     × (o.status ≡ status) × (left_of bytes left ≡ o.left)
-
--- the bytes are sent, and this status follows
-abbrev pub IsEnded : Ready → StatusWord → Ready → Type 0
-IsEnded ready.Nothing status r = ⊥
-IsEnded (ready.Receives h p3 cut) status r = ⊥
-IsEnded (ready.Sends h p3 cut from after ending) status r =
-    (status ≡ after) × (r ≡ ready.Leaves ending)
-IsEnded (ready.Leaves ending) status r = ⊥
 
 -- the state in effect, and what is prepared
 abbrev pub standing_in : {A S : Type 0} → (A → S) → CardOf A → CardState S
@@ -149,13 +125,11 @@ MaySend {S = S} takes h = (is_fetch h ≡ true) ⊎ ((s : S) × (takes s h ≡ f
 
 -- a response waits for this header again
 abbrev pub WaitsFor : Waiting → Header → Type 0
-WaitsFor waiting.Nothing h = ⊥
-WaitsFor (waiting.Fetch from status) h = ⊥
 WaitsFor (waiting.Repeat header status) h = h ≡ header
+WaitsFor other h = ⊥
 
 -- the same after SW2
 abbrev pub LeavesFor : Ready → Header → Type 0
-LeavesFor ready.Nothing h = ⊥
-LeavesFor (ready.Receives h p3 cut) again = ⊥
 LeavesFor (ready.Sends h p3 cut from status ending) again = WaitsFor ending.left again
 LeavesFor (ready.Leaves ending) again = WaitsFor ending.left again
+LeavesFor other again = ⊥

@@ -1,12 +1,12 @@
 -- What a card of given responses asks its caller before it continues.
-use Rattle.std.specs.Prelude.{◌≡◌, ◌≢◌, ◌⊎◌, ℕ, ◌<◌, ◌≤◌, ◌==◌, ◌&&◌, not, List, [], ◌∷◌, length, Option, Some, None, Bool, true, false, unwrap_or, is_some, if◌then◌else◌}
+use Rattle.std.specs.Prelude.{◌≡◌, ◌≢◌, ◌⊎◌, ℕ, ◌<◌, ◌≤◌, ◌==◌, ◌&&◌, not, List, [], length, Option, Some, None, Bool, true, false, is_some, if◌then◌else◌}
 use Rattle.apdu_core.specs.declared.header.Header.{Header}
 use Rattle.apdu_core.specs.HeaderBytes.{ins_is_valid}
 use Rattle.apdu_core.specs.CommandBytes.{Command}
 use Rattle.apdu_core.specs.StatusWord.{StatusWord, count}
 use Rattle.t0_core.specs.CardSide.{EndOf, Taking_header, begins_with, takes_plan, whole_data}
 use Rattle.command_card.specs.declared.given.Directions.{Directions}
-use Rattle.command_card.specs.declared.given.Directions.TheVariants.{Table, Unknown, Known}
+use Rattle.command_card.specs.declared.given.Directions.TheVariants.{Unknown}
 use Rattle.command_card.specs.declared.application.TheConstants.{OWN_RESPONSE_LIMIT}
 use Rattle.command_card.specs.declared.own.GiveFault.{GiveFault}
 use Rattle.command_card.specs.declared.own.GiveFault.TheVariants as fault
@@ -17,27 +17,24 @@ use Rattle.command_card.specs.declared.own.Wanted.TheVariants as wanted
 use Rattle.command_card.specs.declared.ready.Ready.{Ready}
 use Rattle.command_card.specs.declared.ready.Ready.TheVariants as ready
 use Rattle.command_card.specs.Carrying.{IsOwn, asking, taking}
-use Rattle.command_card.specs.AtT1.{Responds}
+use Rattle.command_card.specs.AtT1.{Responds, shown}
 use Rattle.command_card.specs.Given.{GivenState, Gives, after_drop, at_rest, takes_data, with_answer, without_answer}
-use Rattle.command_card.specs.Meaning.{Kind, Invalid, Hands, Unfetched, Takes, Asks, kind_in}
+use Rattle.command_card.specs.Meaning.{Kind, Takes, Asks, kind_in}
 use Rattle.command_card.specs.State.{CardState, is_fetch}
 use Rattle.command_card.specs.View.{CardOf, standing_in}
 
 abbrev pub is_known : Directions → Bool
-is_known (Table bytes) = true
 is_known Unknown = false
-is_known (Known to_card) = true
+is_known other = true
 
 -- What the application is needed for at a header of this kind: nothing, which way its data go, or a
 -- response, at the header or after the data.
 abbrev pub need_of : Bool → Kind → Need
-need_of known Invalid = need.Nothing
-need_of known (Hands hand) = need.Nothing
-need_of known Unfetched = need.Nothing
 need_of false Takes = need.Direction
 need_of false Asks = need.Direction
 need_of true Takes = need.AfterData
 need_of true Asks = need.AtHeader
+need_of known other = need.Nothing
 
 abbrev pub need_in : CardState GivenState → Header → ℕ → Need
 need_in s h p3 = need_of (is_known s.app.directions) (kind_in takes_data s h p3)
@@ -67,10 +64,7 @@ abbrev pub wanted_after : Bool → Ready → List ℕ → Wanted
 wanted_after false (ready.Receives h p3 cut) bytes =
     if ins_is_valid h.ins && (length bytes == p3) then wanted.Response (taking h bytes)
     else wanted.Nothing
-wanted_after false ready.Nothing bytes = wanted.Nothing
-wanted_after false (ready.Sends h p3 cut from status ending) bytes = wanted.Nothing
-wanted_after false (ready.Leaves ending) bytes = wanted.Nothing
-wanted_after true r bytes = wanted.Nothing
+wanted_after given other bytes = wanted.Nothing
 
 abbrev pub wanted_with : CardOf GivenState → Option (List ℕ) → Wanted
 wanted_with c None = wanted.Nothing
@@ -80,15 +74,12 @@ wanted_with c (Some bytes) = wanted_after (is_some c.app.given) c.ready bytes
 abbrev pub is_open : Ready → Bool
 is_open ready.Nothing = true
 is_open (ready.Receives h p3 cut) = true
-is_open (ready.Sends h p3 cut from status ending) = false
-is_open (ready.Leaves ending) = false
+is_open other = false
 
 -- no TPDU has reached the card
 abbrev pub is_free : Ready → Bool
 is_free ready.Nothing = true
-is_free (ready.Receives h p3 cut) = false
-is_free (ready.Sends h p3 cut from status ending) = false
-is_free (ready.Leaves ending) = false
+is_free other = false
 
 -- The card takes a direction: no TPDU has reached it, and it does not know the direction.
 abbrev pub may_decide : CardOf GivenState → Bool
@@ -128,20 +119,15 @@ IsWanted e w =
     ⊎ ((h : Header) × (p3 : ℕ) × (e.stage ≡ Taking_header (begins_with h p3))
     × (w ≡ wanted_by e.card h p3 []))
 
--- A whole command, as T=0 shows it. Data where none are taken, and Le without data where data are
--- taken, are no command of the application.
-abbrev pub wanted_told : Bool → Bool → Header → List ℕ → Option ℕ → Wanted
-wanted_told true takes h bytes le = wanted.Nothing
-wanted_told false true h [] (Some n) = wanted.Nothing
-wanted_told false true h [] None = wanted.Response (taking h [])
-wanted_told false true h (b ∷ bytes) le = wanted.Response (taking h (b ∷ bytes))
-wanted_told false false h [] le = wanted.Response (asking h (unwrap_or le 256))
-wanted_told false false h (b ∷ bytes) le = wanted.Nothing
+-- for a whole command that has none or one of the application's own
+abbrev pub wanted_told : Bool → Option Command → Wanted
+wanted_told false (Some c) = wanted.Response c
+wanted_told given other = wanted.Nothing
 
 abbrev pub wanted_for : GivenState → Command → Wanted
 wanted_for s c = if is_fetch c.header then wanted.Nothing
     else if is_known s.directions
-    then wanted_told (is_some s.given) (takes_data s c.header) c.header c.content c.le
+    then wanted_told (is_some s.given) (shown (takes_data s c.header) c.header c.content c.le)
     else wanted.Direction c.header
 
 -- What a whole command brings: the response that was given for it, if it needs one. What was

@@ -1,21 +1,19 @@
 //! How the card answers commands: verdicts, statuses, and what waits afterwards.
-ghost use Rattle.std.specs.Prelude.{◌≡◌, ◌≤◌, ◌<◌, ℕ, List, [], length, drop, true, false, Some, None, if◌then◌else◌, slice_get};
+ghost use Rattle.std.specs.Prelude.{◌≡◌, ◌≤◌, ◌<◌, ℕ, List, [], length, drop, true, false, Some, None, if◌then◌else◌};
 ghost use Rattle.std.specs.Option.{option_map};
 ghost use Rattle.apdu_core.specs.declared.header.Header.{Header};
 ghost use Rattle.apdu_core.specs.HeaderBytes.{ins_is_valid};
 ghost use Rattle.apdu_core.specs.StatusWord.{IsStatusWord, count};
 ghost use Rattle.t0_core.specs.Meaning.{IsReceiving, Decides, taken_with};
 ghost use Rattle.t0_core.specs.CardContract.{IsRefusal, Judges};
-ghost use Rattle.t0_core.specs.DataRun.{IsRunAt};
-ghost use Rattle.command_card.specs.Carrying.{Makes, asking};
-ghost use Rattle.command_card.specs.State.{Hand, For_repeat, same_header, pending_for, announcing, fetch_left, handed, refusing};
+ghost use Rattle.command_card.specs.Carrying.{Makes};
+ghost use Rattle.command_card.specs.State.{Hand, same_header, pending_for, announcing, fetch_left, handed, refusing};
 ghost use Rattle.command_card.specs.Meaning.{Does};
-ghost use Rattle.command_card.specs.View.{left_of, state_of, state_after, ask_of, prepared_of, buffer_of, bytes_of, sends, IsReady, IsEnded, IsEmptied, Prepares, MaySend, WaitsFor, LeavesFor};
+ghost use Rattle.command_card.specs.View.{left_of, state_of, ask_of, prepared_of, buffer_of, IsReady, IsEmptied, Prepares, MaySend, WaitsFor, LeavesFor};
 
 use crate::application::{Application, GET_RESPONSE, OWN_RESPONSE_LIMIT};
 use crate::ready::{Ending, Ready, Waiting};
 use apdu_core::{Command, Header, Status, count};
-use std::mem::swap;
 use t0_core::Verdict;
 
 /// The status word of these two bytes.
@@ -47,24 +45,12 @@ pub(crate) fn pending_for(
         ≡ pending_for (left_of kept.now.items waiting.now) header p3 }
 {
     match waiting {
-        Waiting::Nothing => None,
-        Waiting::Fetch { from, status } => {
-            if header.ins == GET_RESPONSE {
-                Some((*from, *status))
-            } else {
-                None
-            }
-        }
+        Waiting::Fetch { from, status } if header.ins == GET_RESPONSE => Some((*from, *status)),
         Waiting::Repeat {
             header: first,
             status,
-        } => {
-            if same_header(*first, header) && kept.len() == p3 as usize {
-                Some((0, *status))
-            } else {
-                None
-            }
-        }
+        } if same_header(*first, header) && kept.len() == p3 as usize => { Some((0, *status)) }
+        _ => None,
     }
 }
 
@@ -284,83 +270,8 @@ pub(crate) fn took<A: Application>(
 
 /// The buffer that an answer is in.
 #[inline(always)]
-fn buffer<'a>(kept: &'a Vec<u8>, fresh: &'a Vec<u8>, is_fresh: bool) -> &'a Vec<u8>
+pub(crate) fn buffer<'a>(kept: &'a Vec<u8>, fresh: &'a Vec<u8>, is_fresh: bool) -> &'a Vec<u8>
     ensures { result.now.items ≡ buffer_of is_fresh kept.now.items fresh.now.items }
 {
     if is_fresh { fresh } else { kept }
-}
-
-/// The byte to send at this index.
-#[inline(always)]
-pub(crate) fn sent_byte(kept: &Vec<u8>, fresh: &Vec<u8>, ready: &Ready, at: u16) -> u8
-    requires { at < length (bytes_of kept.now.items fresh.now.items ready.now) }
-    ensures { slice_get (bytes_of kept.now.items fresh.now.items ready.now) at ≡ Some result }
-{
-    match ready {
-        Ready::Sends { from, ending, .. } => {
-            buffer(kept, fresh, ending.fresh)[*from + at as usize]
-        }
-        _ => unreachable!(),
-    }
-}
-
-/// The bytes to send from this index on.
-#[inline(always)]
-pub(crate) fn sent_run<'a>(
-    kept: &'a Vec<u8>,
-    fresh: &'a Vec<u8>,
-    ready: &Ready,
-    at: u16,
-) -> &'a [u8]
-    requires { at < length (bytes_of kept.now.items fresh.now.items ready.now) }
-    ensures { IsRunAt (bytes_of kept.now.items fresh.now.items ready.now) at result.now }
-{
-    match ready {
-        Ready::Sends {
-            from,
-            p3,
-            ending,
-            ..
-        } => {
-            let left = &buffer(kept, fresh, ending.fresh)[*from + at as usize..];
-            let most = count(*p3) as usize - at as usize;
-            &left[..most.min(left.len())]
-        }
-        _ => unreachable!(),
-    }
-}
-
-/// The status after the bytes are sent, and what is prepared.
-pub(crate) fn all_sent(ready: Ready) -> (Status, Ready)
-    requires { sends ready ≡ true }
-    ensures ended { IsEnded ready result.0 result.1 }
-    ensures under { (h : Header) → LeavesFor result.1 h → LeavesFor ready h }
-{
-    match ready {
-        Ready::Sends { status, ending, .. } => (status, Ready::Leaves { ending }),
-        _ => unreachable!(),
-    }
-}
-
-/// The answer takes effect.
-pub(crate) fn take_effect<A: Application>(
-    application: &mut A,
-    kept: &mut Vec<u8>,
-    fresh: &mut Vec<u8>,
-    ending: &Ending,
-)
-    ensures after { state_of (A.standing application.new) kept.new.items ending.now.left
-        ≡ state_after (A.standing application.old) (A.next application.old) kept.old.items
-        fresh.old.items ending.now }
-    ensures fresh { fresh.new.items ≡ [] }
-    ensures kept { IsEmptied ending.now.left kept.new.items }
-{
-    if ending.settles {
-        application.settle();
-    }
-    if ending.fresh {
-        swap(kept, fresh);
-    }
-    wipe(fresh);
-    wipe_ended(&ending.left, kept);
 }

@@ -1,8 +1,7 @@
 //! The same application at T=1, and for whole commands.
 ghost use Rattle.std.specs.Prelude.{◌≡◌, ◌+◌, ◌≤◌, [], ◌++◌, length, drop, vec_capacity, Some, unwrap_or};
 ghost use Rattle.apdu_core.specs.declared.header.Header.{Header};
-ghost use Rattle.apdu_core.specs.StatusWord.{IsStatusWord};
-ghost use Rattle.command_card.specs.AtT1.{HandsOut, Responds, DoesAt, status_bytes, may_bring};
+ghost use Rattle.command_card.specs.AtT1.{HandsOut, Responds, DoesAt, shown, status_bytes, may_bring};
 ghost use Rattle.command_card.specs.State.{Nothing_left};
 ghost use Rattle.command_card.specs.View.{WaitsFor, after_reset, left_of, state_of};
 
@@ -81,15 +80,41 @@ impl<A: Application> AppletOf<A> {
     }
 }
 
+/// The command as T=0 shows it to an application that takes data under this header, or none.
+pub(crate) fn shown<'a>(takes: bool, command: &Command<'a>) -> Option<Command<'a>>
+    ensures { result ≡ shown takes command.now.header command.now.content command.now.le }
+{
+    let (header, bytes, le) = (command.header(), command.data(), command.le());
+    if takes {
+        if bytes.is_empty() && le.is_some() {
+            return None;
+        }
+        return Some(Command::new(header, bytes, None).unwrap());
+    }
+    if !bytes.is_empty() {
+        return None;
+    }
+    Some(Command::new(header, &[], Some(le.unwrap_or(256))).unwrap())
+}
+
+/// Appends bytes, for which there is room.
+pub(crate) fn push(content: &[u8], response: &mut Vec<u8>)
+    requires { length response.old.items + length content.now ≤ vec_capacity response.old }
+    ensures items { response.new.items ≡ response.old.items ++ content.now }
+    ensures room { vec_capacity response.old ≤ vec_capacity response.new }
+{
+    if response.extend_from_slice(content).is_err() {
+        unreachable!()
+    }
+}
+
 /// Writes a response, for which there is room.
 pub(crate) fn write(content: &[u8], status: Status, response: &mut Vec<u8>)
     requires empty { response.old.items ≡ [] }
     requires room { length content.now + 2 ≤ vec_capacity response.old }
     ensures { response.new.items ≡ content.now ++ status_bytes status }
 {
-    if response.extend_from_slice(content).is_err() {
-        unreachable!()
-    }
+    push(content, response);
     response.push_reserved(status.sw1());
     response.push_reserved(status.sw2());
 }
@@ -146,23 +171,11 @@ pub(crate) fn respond<A: Application>(
             }
         };
     }
-    let takes = application.takes_data(header);
-    let has_none = command.data().is_empty();
-    let is_wrong = if takes {
-        has_none && le.is_some()
-    } else {
-        !has_none
-    };
-    if is_wrong {
+    let Some(told) = shown(application.takes_data(header), command) else {
         write(&[], word(0x67, 0x00), response);
         return Waiting::Nothing;
-    }
-    let told = if takes {
-        Command::new(header, command.data(), None)
-    } else {
-        Command::new(header, &[], Some(le.unwrap_or(256)))
     };
-    let (status, settles) = carried_out(application, told.unwrap(), kept);
+    let (status, settles) = carried_out(application, told, kept);
     if settles {
         application.settle();
     }
@@ -206,11 +219,7 @@ impl<A: Application> Applet for AppletOf<A> {
                 write(&[], word(0x67, 0x00), response);
             }
         }
-        Ok(Requests {
-            extensions: 0,
-            multiple: 0,
-            size: None,
-        })
+        Ok(Requests::default())
     }
 
     #[tactic(auto, using(crate::proofs::AppletLemmas::too_long_does))]
@@ -218,10 +227,6 @@ impl<A: Application> Applet for AppletOf<A> {
         response.clear();
         response.reserve(RESPONSE_ROOM)?;
         write(&[], word(0x67, 0x00), response);
-        Ok(Requests {
-            extensions: 0,
-            multiple: 0,
-            size: None,
-        })
+        Ok(Requests::default())
     }
 }

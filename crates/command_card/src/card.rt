@@ -1,10 +1,11 @@
 //! The card that speaks T=0 for an application.
-use crate::answer::{all_sent, judged, sent_byte, sent_run, take_effect, took, wipe};
+use crate::answer::{buffer, judged, took, wipe, wipe_ended};
 use crate::application::Application;
 use crate::ready::{Ready, Waiting};
-use apdu_core::{Header, Status};
+use apdu_core::{Header, Status, count};
 use std::alloc::Global;
 use std::marker::Model;
+use std::mem::swap;
 use t0_core::{DataRun, TpduCard, Verdict};
 
 /// A card over an application (ISO/IEC 7816-3, 10.3 and 12.2). It carries out each command once, at
@@ -121,17 +122,34 @@ impl<A: Application> TpduCard for CommandCard<A> {
 
     #[inline(always)]
     fn byte(&self, at: u16) -> u8 {
-        sent_byte(&self.kept, &self.fresh, &self.ready, at)
+        let Ready::Sends { from, ending, .. } = &self.ready else {
+            unreachable!()
+        };
+        buffer(&self.kept, &self.fresh, ending.fresh)[*from + at as usize]
     }
 
     #[inline(always)]
     fn run(&self, at: u16) -> DataRun<'_> {
-        DataRun::Lent(sent_run(&self.kept, &self.fresh, &self.ready, at))
+        let Ready::Sends {
+            from,
+            p3,
+            ending,
+            ..
+        } = &self.ready
+        else {
+            unreachable!()
+        };
+        let left = &buffer(&self.kept, &self.fresh, ending.fresh)[*from + at as usize..];
+        let most = count(*p3) as usize - at as usize;
+        DataRun::Lent(&left[..most.min(left.len())])
     }
 
     fn end_of_sending(&mut self) -> Status {
-        let (status, ready) = all_sent(self.ready);
-        self.ready = ready;
+        let ready = self.ready;
+        let Ready::Sends { status, ending, .. } = ready else {
+            unreachable!()
+        };
+        self.ready = Ready::Leaves { ending };
         status
     }
 
@@ -145,12 +163,14 @@ impl<A: Application> TpduCard for CommandCard<A> {
         let Ready::Leaves { ending } = self.ready else {
             unreachable!()
         };
-        take_effect(
-            &mut self.application,
-            &mut self.kept,
-            &mut self.fresh,
-            &ending,
-        );
+        if ending.settles {
+            self.application.settle();
+        }
+        if ending.fresh {
+            swap(&mut self.kept, &mut self.fresh);
+        }
+        wipe(&mut self.fresh);
+        wipe_ended(&ending.left, &mut self.kept);
         self.waiting = ending.left;
         self.ready = Ready::Nothing;
     }

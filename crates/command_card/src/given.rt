@@ -1,8 +1,8 @@
 //! An application whose responses come from outside, one for each command.
-ghost use Rattle.std.specs.Prelude.{◌≡◌, ◌≢◌, ◌<◌, ◌≤◌, ◌^◌, [], length, true, None, is_some, IfOk, OnOk, OnErr};
+ghost use Rattle.std.specs.Prelude.{◌≡◌, ◌≢◌, ◌<◌, ◌≤◌, [], length, true, None, is_some, IfOk, OnOk, OnErr};
 ghost use Rattle.command_card.specs.declared.application.TheConstants.{OWN_RESPONSE_LIMIT};
 ghost use Rattle.command_card.specs.Carrying.{IsOwn};
-ghost use Rattle.command_card.specs.Given.{IsGiven, after_drop, forgotten, go_to_card, new_given, settled, with_answer, without_answer};
+ghost use Rattle.command_card.specs.Given.{IsGiven, after_drop, go_to_card, new_given, settled, with_answer, without_answer};
 ghost use Rattle.command_card.specs.declared.given.Directions.TheVariants as way;
 
 use crate::answer::wipe;
@@ -23,30 +23,14 @@ pub enum Directions {
     Known(bool),
 }
 
-fn power_of_two(exponent: u8) -> u8
-    requires { exponent < 8 }
-    ensures { result ≡ 2 ^ exponent }
-{
-    1 << exponent
-}
-
 /// Whether data go to the card under this INS.
 fn go_to_card(directions: &Directions, ins: u8) -> bool
     ensures { result ≡ go_to_card directions.now ins }
 {
     match directions {
-        Directions::Table(bytes) => { bytes[(ins / 8) as usize] / power_of_two(ins % 8) % 2 == 1 }
+        Directions::Table(bytes) => { (bytes[(ins / 8) as usize] >> (ins % 8)) % 2 == 1 }
         Directions::Unknown => false,
         Directions::Known(to_card) => *to_card,
-    }
-}
-
-/// Forgets what was answered about one header.
-fn forget(directions: &mut Directions)
-    ensures { directions.new ≡ forgotten directions.old }
-{
-    if matches!(*directions, Directions::Known(_)) {
-        *directions = Directions::Unknown;
     }
 }
 
@@ -178,7 +162,9 @@ impl Given {
     pub(crate) fn forget_direction(&mut self)
         ensures { self.new ≡ without_answer self.old }
     {
-        forget(&mut self.directions);
+        if matches!(self.directions, Directions::Known(_)) {
+            self.directions = Directions::Unknown;
+        }
     }
 
     /// Drops the response, and what was answered about one header.
@@ -189,7 +175,7 @@ impl Given {
         wipe(&mut self.spare);
         self.status = None;
         self.used = true;
-        forget(&mut self.directions);
+        self.forget_direction();
     }
 }
 

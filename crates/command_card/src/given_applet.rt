@@ -1,9 +1,8 @@
 //! The card of given responses at T=1.
-ghost use Rattle.std.specs.Prelude.{◌≡◌, ◌+◌, ◌≤◌, [], ◌++◌, length, vec_capacity};
-ghost use Rattle.t1_core.specs.CardSide.{no_requests};
+ghost use Rattle.std.specs.Prelude.{◌≡◌, []};
 
 use crate::answer::word;
-use crate::applet::{COMMAND_LIMIT, RESPONSE_ROOM, write};
+use crate::applet::{COMMAND_LIMIT, RESPONSE_ROOM, push, write};
 use crate::card::CommandCard;
 use crate::given::Given;
 use crate::own::{Wanted, forget, respond_to, wanted_by_command};
@@ -18,26 +17,6 @@ use t1_core::{Applet, Requests};
 pub struct GivenApplet {
     /// The card as it was at T=0, where no TPDU may be in progress.
     pub end: CardEnd<CommandCard<Given>>,
-}
-
-/// Appends bytes, for which there is room.
-fn push(content: &[u8], response: &mut Vec<u8>)
-    requires { length response.old.items + length content.now ≤ vec_capacity response.old }
-    ensures { response.new.items ≡ response.old.items ++ content.now }
-{
-    if response.extend_from_slice(content).is_err() {
-        unreachable!()
-    }
-}
-
-fn no_requests() -> Requests
-    ensures { result ≡ no_requests }
-{
-    Requests {
-        extensions: 0,
-        multiple: 0,
-        size: None,
-    }
 }
 
 impl Applet for GivenApplet {
@@ -86,7 +65,7 @@ impl Applet for GivenApplet {
                 write(&[], word(0x67, 0x00), response);
             }
         }
-        Ok(no_requests())
+        Ok(Requests::default())
     }
 
     #[tactic(auto, using(crate::proofs::AppletLemmas::too_long_does))]
@@ -94,6 +73,6 @@ impl Applet for GivenApplet {
         response.clear();
         response.reserve(RESPONSE_ROOM)?;
         write(&[], word(0x67, 0x00), response);
-        Ok(no_requests())
+        Ok(Requests::default())
     }
 }

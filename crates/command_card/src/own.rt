@@ -7,10 +7,10 @@ ghost use Rattle.command_card.specs.declared.applet.TheConstants.{RESPONSE_ROOM}
 ghost use Rattle.command_card.specs.Given.{Gives, at_rest, settled, takes_data};
 ghost use Rattle.command_card.specs.AtT1.{Responds, may_bring};
 ghost use Rattle.command_card.specs.View.{WaitsFor, standing_in, state_of, prepared_in};
-ghost use Rattle.command_card.specs.Wanted.{IsNotTaken, IsTaken, IsWanted, RespondsAs, forgotten_by, is_free, is_open, is_known, may_decide, need_in, taken_back, wanted_as, wanted_by, wanted_for, wanted_with};
+ghost use Rattle.command_card.specs.Wanted.{IsNotTaken, IsTaken, IsWanted, RespondsAs, forgotten_by, is_free, is_known, may_decide, need_in, taken_back, wanted_as, wanted_by, wanted_for, wanted_with};
 
 use crate::answer::{pending_for, wipe, wipe_ended, word};
-use crate::applet::{RESPONSE_ROOM, hand_out, write};
+use crate::applet::{RESPONSE_ROOM, hand_out, shown, write};
 use crate::application::{Application, GET_RESPONSE, OWN_RESPONSE_LIMIT};
 use crate::card::CommandCard;
 use crate::given::{Directions, Given};
@@ -56,28 +56,11 @@ pub enum GiveFault {
     OutOfMemory,
 }
 
-/// Whether the application may still be given something: the card has prepared no answer.
-fn is_open(ready: &Ready) -> bool
-    ensures { result ≡ is_open ready.now }
-{
-    matches!(ready, Ready::Nothing | Ready::Receives { .. })
-}
-
-/// Whether no TPDU has reached the card.
-fn is_free(ready: &Ready) -> bool
-    ensures { result ≡ is_free ready.now }
-{
-    matches!(ready, Ready::Nothing)
-}
-
 /// Whether the way of the next data is known.
 fn is_known(directions: Directions) -> bool
     ensures { result ≡ is_known directions }
 {
-    match directions {
-        Directions::Table(_) | Directions::Known(_) => true,
-        Directions::Unknown => false,
-    }
+    !matches!(directions, Directions::Unknown)
 }
 
 impl Open for CommandCard<Given> {}
@@ -92,23 +75,17 @@ impl CommandCard<Given> {
     pub fn need(&self, header: Header, p3: u8) -> Need
         ensures { result ≡ need_in (standing_in at_rest self.now) header p3 }
     {
-        if !header.ins_is_valid() {
-            return Need::Nothing;
-        }
-        if pending_for(&self.waiting, &self.kept, header, p3).is_some() {
-            return Need::Nothing;
-        }
-        if header.ins == GET_RESPONSE {
+        let pending = pending_for(&self.waiting, &self.kept, header, p3);
+        if !header.ins_is_valid() || pending.is_some() || header.ins == GET_RESPONSE {
             return Need::Nothing;
         }
         if !is_known(self.application.directions()) {
             return Need::Direction;
         }
         if self.application.takes_data(header) {
-            Need::AfterData
-        } else {
-            Need::AtHeader
+            return Need::AfterData;
         }
+        Need::AtHeader
     }
 
     /// Takes the response to the command in progress.
@@ -126,7 +103,8 @@ impl CommandCard<Given> {
         ensures done { OnOk result (IsTaken self.old bytes.now status self.new) }
         ensures why { IfErr result (λ f. IsNotTaken self.old bytes.now status f) }
     {
-        if !is_open(&self.ready) || self.application.has_response() {
+        let is_open = matches!(self.ready, Ready::Nothing | Ready::Receives { .. });
+        if !is_open || self.application.has_response() {
             return Err(GiveFault::NotWanted);
         }
         if bytes.len() > OWN_RESPONSE_LIMIT {
@@ -167,7 +145,7 @@ impl CommandCard<Given> {
             ≡ prepared_in at_rest settled self.old }
         ensures done { self.new ≡ taken_back self.old }
     {
-        if is_free(&self.ready) {
+        if let Ready::Nothing = self.ready {
             self.application.drop_response();
         }
     }
@@ -198,7 +176,7 @@ impl CommandCard<Given> {
             ((is_free self.old.ready ≡ true) × (self.new.ready ≡ self.old.ready)) }
         ensures short { OnOk result (length self.new.fresh ≤ may_bring le + 2) }
     {
-        if !is_free(&self.ready) {
+        if !matches!(self.ready, Ready::Nothing) {
             return Err(AllocError);
         }
         wipe(&mut self.fresh);
@@ -272,18 +250,29 @@ fn respond_given(
             }
         };
     }
-    let has_none = command.data().is_empty();
-    let is_wrong = if application.takes_data(header) {
-        has_none && le.is_some()
-    } else {
-        !has_none
-    };
-    if is_wrong {
+    if shown(application.takes_data(header), command).is_none() {
         write(&[], word(0x67, 0x00), response);
         return Ok(Waiting::Nothing);
     }
     let status = application.hand_over(kept)?;
     Ok(hand_out(kept, 0, status, le, response))
+}
+
+/// The body of `needed_by`, which `wanted_by` shares without a call.
+#[inline(always)]
+fn need_by(card: &CommandCard<Given>, header: Header, p3: u8, bytes: &[u8]) -> Need
+    ensures needs { wanted_by card.now header p3 bytes.now
+        ≡ wanted_as result header p3 bytes.now }
+    ensures whole { result ≡ Need.AfterData → length bytes.now ≡ p3 }
+{
+    let is_given = card.application.has_response();
+    if !header.ins_is_valid() || is_given && is_known(card.application.directions()) {
+        return Need::Nothing;
+    }
+    match card.need(header, p3) {
+        Need::AfterData if bytes.len() != p3 as usize => Need::Nothing,
+        need => need,
+    }
 }
 
 /// What is still needed of the application at a header, if `bytes` are the data to the card. A
@@ -293,51 +282,22 @@ fn respond_given(
 pub fn needed_by(card: &CommandCard<Given>, header: Header, p3: u8, bytes: &[u8]) -> Need
     ensures { wanted_by card.now header p3 bytes.now ≡ wanted_as result header p3 bytes.now }
 {
-    if !header.ins_is_valid() {
-        return Need::Nothing;
-    }
-    if card.application.has_response() && is_known(card.application.directions()) {
-        return Need::Nothing;
-    }
-    match card.need(header, p3) {
-        Need::Nothing => Need::Nothing,
-        Need::Direction => Need::Direction,
-        Need::AtHeader => Need::AtHeader,
-        Need::AfterData => {
-            if bytes.len() != p3 as usize {
-                return Need::Nothing;
-            }
-            Need::AfterData
-        }
-    }
+    need_by(card, header, p3, bytes)
 }
 
-/// What is wanted of the caller at a header, if these are its data.
+/// What is wanted of the caller at a header, if these are its data. Most characters end no header.
+#[inline(never)]
 fn wanted_by<'a>(card: &CommandCard<Given>, header: Header, p3: u8, bytes: &'a [u8]) -> Wanted<'a>
     ensures { result ≡ wanted_by card.now header p3 bytes.now }
 {
     if !header.ins_is_valid() {
         return Wanted::Nothing;
     }
-    let is_given = card.application.has_response();
-    if is_given && is_known(card.application.directions()) {
-        return Wanted::Nothing;
-    }
-    match card.need(header, p3) {
+    match need_by(card, header, p3, bytes) {
         Need::Nothing => Wanted::Nothing,
         Need::Direction => Wanted::Direction(header),
-        Need::AtHeader => {
-            if is_given {
-                return Wanted::Nothing;
-            }
-            Wanted::Response(Command::new(header, &[], Some(count(p3))).unwrap())
-        }
-        Need::AfterData => {
-            if is_given || bytes.len() != p3 as usize {
-                return Wanted::Nothing;
-            }
-            Wanted::Response(Command::new(header, bytes, None).unwrap())
-        }
+        Need::AtHeader => { Wanted::Response(Command::new(header, &[], Some(count(p3))).unwrap()) }
+        Need::AfterData => Wanted::Response(Command::new(header, bytes, None).unwrap()),
     }
 }
 
@@ -345,19 +305,18 @@ fn wanted_by<'a>(card: &CommandCard<Given>, header: Header, p3: u8, bytes: &'a [
 fn wanted_after<'a>(card: &CommandCard<Given>, bytes: &'a [u8]) -> Wanted<'a>
     ensures { result ≡ wanted_with card.now (Some bytes.now) }
 {
-    if card.application.has_response() {
-        return Wanted::Nothing;
-    }
     let Ready::Receives { header, p3, .. } = card.ready else {
         return Wanted::Nothing;
     };
-    if !header.ins_is_valid() || bytes.len() != p3 as usize {
+    let is_whole = header.ins_is_valid() && bytes.len() == p3 as usize;
+    if card.application.has_response() || !is_whole {
         return Wanted::Nothing;
     }
     Wanted::Response(Command::new(header, bytes, None).unwrap())
 }
 
 /// What is wanted of the caller before the card's end sends its next character.
+#[inline(always)]
 pub fn wanted_next<'a>(end: &'a CardEnd<CommandCard<Given>>) -> Wanted<'a>
     ensures { IsWanted end.now result }
 {
@@ -392,17 +351,10 @@ pub fn wanted_by_command<'a>(end: &CardEnd<CommandCard<Given>>, command: &Comman
     if application.has_response() {
         return Wanted::Nothing;
     }
-    let (bytes, le) = (command.data(), command.le());
-    if application.takes_data(header) {
-        if bytes.is_empty() && le.is_some() {
-            return Wanted::Nothing;
-        }
-        return Wanted::Response(Command::new(header, bytes, None).unwrap());
+    match shown(application.takes_data(header), command) {
+        Some(told) => Wanted::Response(told),
+        None => Wanted::Nothing,
     }
-    if !bytes.is_empty() {
-        return Wanted::Nothing;
-    }
-    Wanted::Response(Command::new(header, &[], Some(le.unwrap_or(256))).unwrap())
 }
 
 /// Gives the response to the command in progress, with the errors of `CommandCard::give`.

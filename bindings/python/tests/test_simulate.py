@@ -339,6 +339,7 @@ def test_the_program_ends_with_the_reader_of_its_output(at_pty, words):
      (["--pty", "--atr", "3B800181"], "command 1, nulls 3", "needs a line at T=0"),
      (["--pty", "--atr", "3B800E8E"], "", "a line needs an answer to reset that"),
      (["--pty"], "nonsense", "faults:1: not WHEN, WHAT of a fault: nonsense\nWHEN is one of: comm"),
+     (["--pty"], "non\x9bsense", "not WHEN, WHAT of a fault: non\\x9bsense\nWHEN is one of: "),
      (["--pty"], "after 1, nonsense", "after 1, nonsense\nWHAT is one of: ")],
 )
 def test_errors_before_anything_runs(files, capsys, monkeypatch, words, faults, text):

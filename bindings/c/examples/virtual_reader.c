@@ -15,6 +15,7 @@
 
 #include "contactless.h"
 #include "table.h"
+#include "text.h"
 
 #include <ifdhandler.h>
 
@@ -151,7 +152,8 @@ RESPONSECODE IFDHCreateChannelByName(DWORD Lun, LPSTR DeviceName)
         return IFD_COMMUNICATION_ERROR;
     if (!reader->has_card) {
         const int why = errno;
-        fprintf(stderr, "%s: %s\n", name, why == 0 ? "not a regular file" : strerror(why));
+        text_print(stderr, name);
+        fprintf(stderr, ": %s\n", why == 0 ? "not a regular file" : strerror(why));
         if (why != ENOENT && why != 0)
             return IFD_COMMUNICATION_ERROR;
     }

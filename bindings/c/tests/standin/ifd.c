@@ -265,7 +265,8 @@ static void told_faults(void)
 {
     static const char *const wanted[] = {
         "2.table: line 2: bad argument", "there.table: No such file or directory",
-        "there.table: line 1: bad argument", "/dev/null: not a regular file", ".: Is a directory", "ifd.told/table: Not a directory"
+        "there.table: line 1: bad argument", "/dev/null: not a regular file", ".: Is a directory",
+        "ifd.told/table: Not a directory"
     };
     char name[] = "there.table", folder[] = ".", under[] = "ifd.told/table", line[128] = "";
     char device[] = "/dev/null";

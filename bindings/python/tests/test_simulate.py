@@ -195,6 +195,15 @@ class Vpcd:
         self.thread.join()
 
 
+def test_an_answer_longer_than_a_message_is_cut():
+    faults = [f"command 1, add {'5A' * 35000}"] * 2
+    it = Vpcd(of=Simulator(Card({bytes(5): {}}), faults=Faults(read("\n".join(faults)))))
+    it.say(bytes(5))
+    size = it.line.recv(2, socket.MSG_WAITALL)
+    assert size == b"\xFF\xFF" and it.line.recv(65535, socket.MSG_WAITALL) == b"\x5A" * 65535
+    it.end()
+
+
 @pytest.fixture
 def vpcd():
     made = []

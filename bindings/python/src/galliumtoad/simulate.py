@@ -304,7 +304,7 @@ def talk_vpcd(of: Simulator, line: socket.socket, tell: Callable[[str], object])
                     continue
                 if (looks := looks - (data == GET_ATR)) == 0:
                     tell("")
-                answer = of.atr if data == GET_ATR else of(data)
+                answer = (of.atr if data == GET_ATR else of(data))[:0xFFFF]
                 line.sendall(len(answer).to_bytes(2, "big") + answer)
         of.is_over.wait(MUTE_FOR if str(of.faults.gone) == "mute" else 0)
 

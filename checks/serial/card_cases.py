@@ -399,6 +399,7 @@ def words():
          "the tty cannot be opened: '/nowhere/tty': No such file or directory\n"),
         (["/dev/null", TABLE], "'/dev/null' is not a tty\n"),
         (["--pty", "/nowhere/table"], "/nowhere/table: No such file or directory\n"),
+        (["--pty", "/nowhere/\u009b\u00e9"], "/nowhere/??\u00e9: No such file or directory\n"),
         (["--pty", "/"], "/: Is a directory\n"),
     ):
         refuses("serial_card", given, fault, 1)

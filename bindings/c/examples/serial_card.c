@@ -7,6 +7,7 @@
 #include "serial_options.h"
 #include "serial_t1.h"
 #include "table.h"
+#include "text.h"
 
 #include <errno.h>
 #include <string.h>
@@ -431,7 +432,9 @@ static int run(char *const *words, size_t count)
     name = words[wanted - 1];
     file = fopen(name, "r");
     if (file == NULL) {
-        fprintf(stderr, "%s: %s\n", name, strerror(errno));
+        const int why = errno;
+        text_print(stderr, name);
+        fprintf(stderr, ": %s\n", strerror(why));
         return FAULT;
     }
     code = table_read(file, name, &table);

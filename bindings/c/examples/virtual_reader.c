@@ -15,13 +15,16 @@
 
 #include "contactless.h"
 #include "table.h"
+#include "text.h"
 
 #include <ifdhandler.h>
 
 #include <errno.h>
+#include <fcntl.h>
 #include <string.h>
 #include <sys/stat.h>
 #include <time.h>
+#include <unistd.h>
 
 /* the most bytes of a file's name, with the NUL after it */
 #define NAME_ROOM 1024
@@ -96,14 +99,28 @@ static void take_out(struct virtual_reader *reader)
     clock_gettime(CLOCK_MONOTONIC, &reader->taken);
 }
 
+/* Opens a table's file, and says what it is. A pipe or a device would wait for bytes, and is as no
+ * file: NULL, with `errno` as it was. */
+static FILE *open_table(const char *name, struct stat *found)
+{
+    const int fd = open(name, O_RDONLY | O_NONBLOCK | O_NOCTTY | O_CLOEXEC);
+    FILE *file = NULL;
+    memset(found, 0, sizeof *found);
+    if (fd >= 0 && fstat(fd, found) == 0 && (S_ISREG(found->st_mode) || S_ISDIR(found->st_mode)))
+        file = fdopen(fd, "r");
+    if (file == NULL) {
+        memset(found, 0, sizeof *found);
+        if (fd >= 0)
+            close(fd);
+    }
+    return file;
+}
+
 /* Takes the card out if its file is another one now, or none, and reads the table of a new file. */
 static void look_at_file(struct virtual_reader *reader)
 {
-    FILE *file = fopen(reader->name, "r");
     struct stat found;
-    memset(&found, 0, sizeof found);
-    if (file != NULL)
-        fstat(fileno(file), &found);
+    FILE *file = open_table(reader->name, &found);
     if ((reader->has_card || reader->is_refused) && !is_same(&found, &reader->seen))
         take_out(reader);
     if (file == NULL)
@@ -135,8 +152,9 @@ RESPONSECODE IFDHCreateChannelByName(DWORD Lun, LPSTR DeviceName)
         return IFD_COMMUNICATION_ERROR;
     if (!reader->has_card) {
         const int why = errno;
-        fprintf(stderr, "%s: %s\n", name, strerror(why));
-        if (why != ENOENT)
+        text_print(stderr, name);
+        fprintf(stderr, ": %s\n", why == 0 ? "not a regular file" : strerror(why));
+        if (why != ENOENT && why != 0)
             return IFD_COMMUNICATION_ERROR;
     }
     reader->is_used = 1;

@@ -1,5 +1,6 @@
 #include "reader.h"
 #include "contactless.h"
+#include "text.h"
 #include "waiting.h"
 
 #include <string.h>
@@ -99,6 +100,7 @@ static const char *tell_many(const struct names *names, const char *wanted)
             sign = ",";
         }
     }
+    text_calm(told);
     return told;
 }
 
@@ -138,8 +140,10 @@ const char *reader_list(FILE *out)
     if (code != SCARD_S_SUCCESS)
         return text_of(code);
     code = get_names(context, &names);
-    while (code == SCARD_S_SUCCESS && (name = next_name(&names, name)) != NULL)
-        fprintf(out, "%s\n", name);
+    while (code == SCARD_S_SUCCESS && (name = next_name(&names, name)) != NULL) {
+        text_print(out, name);
+        fputc('\n', out);
+    }
     free_names(context, &names);
     SCardReleaseContext(context);
     return code == SCARD_E_NO_READERS_AVAILABLE ? NULL : text_of(code);

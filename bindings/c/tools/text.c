@@ -49,17 +49,55 @@ const char *text_hex_fault(const char *digits)
     return n % 2 == 0 ? NULL : "an odd number of digits";
 }
 
+/* How many bytes the character here has. A byte that is no character of UTF-8 is one. */
+static size_t character(const char *text)
+{
+    const unsigned char first = (unsigned char)text[0];
+    const size_t n = first >= 0xF0 ? 4 : first >= 0xE0 ? 3 : first >= 0xC2 ? 2 : 1;
+    size_t i;
+    for (i = 1; i < n; i++) {
+        if (((unsigned char)text[i] & 0xC0) != 0x80)
+            return 1;
+    }
+    return n;
+}
+
+/* Whether a character would control a terminal: one of C0, DEL, or C1, alone or in UTF-8. */
+static bool is_control(const char *text, size_t n)
+{
+    const unsigned char last = (unsigned char)text[n - 1];
+    return (n == 1 && (last < ' ' || last == 0x7F || (last >= 0x80 && last < 0xA0)))
+        || (n == 2 && text[0] == '\xC2' && last < 0xA0);
+}
+
+void text_calm(char *text)
+{
+    size_t n;
+    for (; *text != '\0'; text += n) {
+        n = character(text);
+        if (is_control(text, n))
+            memset(text, '?', n);
+    }
+}
+
+void text_print(FILE *out, const char *text)
+{
+    size_t n;
+    for (; *text != '\0'; text += n) {
+        n = character(text);
+        if (is_control(text, n))
+            fputs(n == 1 ? "?" : "??", out);
+        else
+            fwrite(text, 1, n, out);
+    }
+}
+
 const char *text_quoted(const char *before, const char *word, const char *behind)
 {
     static char told[320];
-    const size_t start = strlen(before) + 1;
     const char *more = strlen(word) > 60 ? ".." : "";
-    size_t i;
     snprintf(told, sizeof told, "%s'%.60s%s'%s", before, word, more, behind);
-    for (i = start; told[i] != '\0'; i++) {
-        if ((unsigned char)told[i] < ' ' || told[i] == 0x7F)
-            told[i] = '?';
-    }
+    text_calm(told);
     return told;
 }
 

@@ -5,6 +5,7 @@
 #include <stdbool.h>
 #include <stddef.h>
 #include <stdint.h>
+#include <stdio.h>
 
 /* Takes the next word of a line, or returns NULL if no word is left. Spaces separate words. The
  * word gets a NUL after it, and `line` continues after that. */
@@ -21,8 +22,14 @@ void text_hex_bytes(const char *digits, uint8_t *out);
 /* Why a text is no such digits; NULL if it is. */
 const char *text_hex_fault(const char *digits);
 
-/* `BEFORE'WORD'BEHIND`, with the first 60 bytes of the word, and `?` for each character in it that
- * would control a terminal. The text stays until the next call of this function or the next. */
+/* Replaces each byte of a character that would control a terminal by `?`. */
+void text_calm(char *text);
+
+/* Prints a text with these replaced. */
+void text_print(FILE *out, const char *text);
+
+/* `BEFORE'WORD'BEHIND`, with the first 60 bytes of the word, as `text_calm` leaves it. The text
+ * stays until the next call of this function or the next. */
 const char *text_quoted(const char *before, const char *word, const char *behind);
 
 /* The same of a fault: `WHAT: 'WORD': WHY`. */

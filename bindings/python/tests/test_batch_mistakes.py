@@ -238,6 +238,12 @@ def test_no_reader_at_all(tmp_path):
     assert room.run("--id=50") == refused("name one with --reader; there is no reader")
 
 
+def test_a_mistake_controls_no_terminal(tmp_path):
+    room = Room(tmp_path, 1)
+    room.write("script", "\x1b[2Jput 50 41\n")
+    assert room.run()[2].startswith("galliumtoad.batch: script:1: `\\x1b[2Jput` is no operation")
+
+
 def test_without_pyscard_one_line_names_the_package(tmp_path):
     room = Room(tmp_path, 1)
     room.is_apart = True

@@ -401,6 +401,15 @@ def test_a_report_shows_signs_as_they_are(tmp_path):
     assert Page((tmp_path / "day.html").read_text()).rows[1][2] == name
 
 
+def test_the_name_of_a_reader_controls_no_terminal(tmp_path):
+    room, name = Room(tmp_path, 1, readers=0), f"R{os.getpid()}\x9b"
+    room.add_reader(name)
+    room.environment["WORN"] = "yes"
+    out, shown = room.run("--reader=R", "--stop-after=1")[1], name.replace("\x9b", "\\x9b")
+    assert f"{shown}: row 1 failed" in out and f"row 1 failed: a card without an id, {shown}" in out
+    assert "\x9b" not in out
+
+
 def test_a_report_is_whole_at_each_moment(tmp_path):
     room = Room(tmp_path, 12)
     room.environment["SLOW"] = "0.03"

@@ -565,3 +565,11 @@ def test_what_can_not_happen():
     it, _ = simulator("command 1, lrc")
     with pytest.raises(Mistake, match="this needs a line at T=1"):
         it(SELECT)
+
+
+def test_the_name_of_a_file_controls_no_terminal():
+    told = []
+    faults = Faults(read("command 1, status 6A82", "a\x9b"), tell=told.append)
+    faults.begin(bytes(5))
+    faults.changed(b"\x90\x00")
+    assert told == ["fault at command 1: a\\x9b:1: command 1, status 6A82"]

@@ -195,6 +195,15 @@ class Vpcd:
         self.thread.join()
 
 
+def test_an_answer_longer_than_a_message_is_cut():
+    faults = [f"command 1, add {'5A' * 35000}"] * 2
+    it = Vpcd(of=Simulator(Card({bytes(5): {}}), faults=Faults(read("\n".join(faults)))))
+    it.say(bytes(5))
+    size = it.line.recv(2, socket.MSG_WAITALL)
+    assert size == b"\xFF\xFF" and it.line.recv(65535, socket.MSG_WAITALL) == b"\x5A" * 65535
+    it.end()
+
+
 @pytest.fixture
 def vpcd():
     made = []
@@ -339,6 +348,7 @@ def test_the_program_ends_with_the_reader_of_its_output(at_pty, words):
      (["--pty", "--atr", "3B800181"], "command 1, nulls 3", "needs a line at T=0"),
      (["--pty", "--atr", "3B800E8E"], "", "a line needs an answer to reset that"),
      (["--pty"], "nonsense", "faults:1: not WHEN, WHAT of a fault: nonsense\nWHEN is one of: comm"),
+     (["--pty"], "non\x9bsense", "not WHEN, WHAT of a fault: non\\x9bsense\nWHEN is one of: "),
      (["--pty"], "after 1, nonsense", "after 1, nonsense\nWHAT is one of: ")],
 )
 def test_errors_before_anything_runs(files, capsys, monkeypatch, words, faults, text):

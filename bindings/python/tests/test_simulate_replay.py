@@ -202,14 +202,28 @@ def test_lines_that_an_editor_of_another_system_wrote(replay, tmp_path):
 
 
 NO_TPDUS = {"type": "command", "line": 2}
+WRONG_PARTS = {"line": "two", "cla": "8", "ins": None, "p1": "0", "p2": [], "sent": "zz",
+               "received": "4", "status": "zzzz"}
+NOT_ITS = [7, [], "error", {}, {"line": 1}, NO_TPDUS, {**NO_TPDUS, "tpdus": 7},
+           {**NO_TPDUS, "tpdus": [{"status": 7}]}, {"type": "atr", "characters": "3"},
+           {**NO_TPDUS, "tpdus": [1]}, {**NO_TPDUS, "tpdus": ["9000"]},
+           {"type": "error"}, one(2, "80100000", status="6000"),
+           *(command({**tpdu(2, "80100000", "", "", "9000"), name: wrong})
+             for name, wrong in WRONG_PARTS.items())]
 
 
-@pytest.mark.parametrize(
-    "object_", [7, [], "error", {}, {"line": 1}, NO_TPDUS, {**NO_TPDUS, "tpdus": 7},
-                {**NO_TPDUS, "tpdus": [{"status": 7}]}, {"type": "atr", "characters": "3"}])
-def test_lines_that_another_program_wrote(replay, tmp_path, object_):
-    with pytest.raises(Mistake, match=f"^{tmp_path}/capture: not of trace_explain --json: "):
-        replay(RESET, object_, *COUNTER)
+@pytest.mark.parametrize("line", [*map(json.dumps, NOT_ITS), "{", "[" * 99999, "9" * 9999],
+                         ids=lambda it: it[-50:])
+def test_lines_that_another_program_wrote(tmp_path, line):
+    lines = [json.dumps(RESET), "", line, json.dumps(COUNTER[0])]
+    (tmp_path / "capture").write_text("\n".join(lines))
+    with pytest.raises(Mistake, match=f"^{tmp_path}/capture: line 3: not of trace_explain --json:"):
+        Replay(str(tmp_path / "capture"))
+
+
+def test_digits_of_either_case(replay):
+    card = replay(one(1, "00a4040002", "abcd", "ef", "9f1c"))
+    assert asked(card, "00A4040002ABCD00") == ["EF9F1C"]
 
 
 def test_a_masked_note_does_not_matter(replay):

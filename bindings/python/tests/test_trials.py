@@ -38,7 +38,7 @@ def run(tmp_path, only, *ways, limit=20):
 def test_a_good_terminal(tmp_path, only, verdict):
     found, status, page = run(tmp_path, only)
     assert list(found.values()) == [verdict] and status == 0
-    assert f"<td>{verdict}<td>" in page and "ISO/IEC" in page or "EMV" in page
+    assert f"<td>{verdict}</td>" in page and "ISO/IEC" in page or "EMV" in page
 
 
 @pytest.mark.parametrize(
@@ -60,7 +60,7 @@ def test_what_no_terminal_sees_does_not_count(tmp_path, capsys):
     assert "wrong  *" in capsys.readouterr().out
 
 
-LEAVES = "setsid sleep 30 & echo 'it says \u00fc'; exec sleep 30"
+LEAVES = "setsid sleep 30 & echo 'it says \u00fc\x1b'; exec sleep 30"
 
 
 def test_a_process_that_leaves_its_group_holds_nothing_up(tmp_path, monkeypatch):
@@ -69,7 +69,7 @@ def test_a_process_that_leaves_its_group_holds_nothing_up(tmp_path, monkeypatch)
     words = ["--only", "select refused", "--limit", "2", "--json", str(made), "--", "sh", "-c"]
     assert main([*words, LEAVES, "{tty}"]) == 1 and time.monotonic() < begun + 25
     [found] = json.loads(made.read_text())
-    assert (found["verdict"], found["said"]) == ("hung", "it says \\xc3\\xbc")
+    assert (found["verdict"], found["said"]) == ("hung", "it says \\xc3\\xbc\\x1b")
 
 
 def test_a_terminal_that_prints_without_end_takes_no_memory(tmp_path):
@@ -89,6 +89,21 @@ def test_an_interrupt_ends_the_terminal_too(tmp_path):
     assert run.communicate(timeout=60)[1] == "interrupted\n" and run.returncode == 2
     number = (tmp_path / "made").read_text().strip()
     wait_until(lambda: not Path(f"/proc/{number}/exe").exists())
+
+
+@pytest.mark.parametrize("option", ["--json", "--html"])
+def test_a_file_that_can_not_be_written_is_found_before_the_run(tmp_path, monkeypatch, capsys,
+                                                                option):
+    monkeypatch.setattr(trials, "tried", lambda *_: pytest.fail("it runs"))
+    assert main([option, str(tmp_path), "--", "true", "{tty}"]) == 2
+    assert "Is a directory" in capsys.readouterr().err
+
+
+@pytest.mark.parametrize("option", ["--json", "--html"])
+def test_a_run_that_fails_at_its_start_leaves_a_file(tmp_path, option):
+    (tmp_path / "kept").write_text("earlier results")
+    words = [option, str(tmp_path / "kept"), "--only", "lost at", "--", "/none/at/all", "{tty}"]
+    assert main(words) == 2 and (tmp_path / "kept").read_text() == "earlier results"
 
 
 def test_verdicts():

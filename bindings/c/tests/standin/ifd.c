@@ -11,6 +11,7 @@
 #include <stdlib.h>
 #include <sys/stat.h>
 #include <time.h>
+#include <unistd.h>
 
 /* Readers, by the numbers that pcscd gives them. Each has one slot. */
 #define ONE 0x00000
@@ -264,9 +265,11 @@ static void told_faults(void)
 {
     static const char *const wanted[] = {
         "2.table: line 2: bad argument", "there.table: No such file or directory",
-        "there.table: line 1: bad argument", ".: Is a directory", "ifd.told/table: Not a directory"
+        "there.table: line 1: bad argument", "/dev/null: not a regular file", ".: Is a directory",
+        "ifd.told/table: Not a directory"
     };
     char name[] = "there.table", folder[] = ".", under[] = "ifd.told/table", line[128] = "";
+    char device[] = "/dev/null";
     size_t i;
     FILE *file = freopen("ifd.told", "w", stderr);
     CHECK(file != NULL, 1);
@@ -277,6 +280,8 @@ static void told_faults(void)
     CHECK(IFDHICCPresence(NONE), IFD_ICC_NOT_PRESENT);
     CHECK(IFDHCloseChannel(NONE), IFD_SUCCESS);
     remove(name);
+    CHECK(IFDHCreateChannelByName(NONE, device), IFD_SUCCESS);
+    CHECK(IFDHCloseChannel(NONE), IFD_SUCCESS);
     CHECK(IFDHCreateChannelByName(NONE, folder), IFD_COMMUNICATION_ERROR);
     CHECK(IFDHCreateChannelByName(NONE, under), IFD_COMMUNICATION_ERROR);
     fclose(stderr);
@@ -486,6 +491,27 @@ static void starts_empty(void)
     CHECK(IFDHCloseChannel(NONE), IFD_SUCCESS);
 }
 
+/* A pipe in the place of a table would wait for a writer: it is as no file, at the start and
+ * later. */
+static void pipes(void)
+{
+    alarm(60);
+    remove(file_of(NONE));
+    CHECK(mkfifo(file_of(NONE), 0600), 0);
+    CHECK(IFDHCreateChannelByName(NONE, file_of(NONE)), IFD_SUCCESS);
+    CHECK(IFDHICCPresence(NONE), IFD_ICC_NOT_PRESENT);
+    remove(file_of(NONE));
+    write_table(NONE, NAMES);
+    CHECK(IFDHICCPresence(NONE), IFD_ICC_PRESENT);
+    remove(file_of(NONE));
+    CHECK(mkfifo(file_of(NONE), 0600), 0);
+    CHECK(IFDHICCPresence(NONE), IFD_ICC_NOT_PRESENT);
+    CHECK_FAULT(NONE, 0, GET_NAME, 258, IFD_ICC_NOT_PRESENT);
+    CHECK(IFDHCloseChannel(NONE), IFD_SUCCESS);
+    remove(file_of(NONE));
+    alarm(0);
+}
+
 /* Answers to reset that offer neither protocol, and an invalid one, which counts as T=0. */
 static void other_protocols(void)
 {
@@ -554,6 +580,7 @@ int main(void)
     own_application();
     other_tables();
     starts_empty();
+    pipes();
     comes_and_goes();
     other_protocols();
     long_names();

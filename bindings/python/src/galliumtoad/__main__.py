@@ -5,16 +5,15 @@ import importlib
 import sys
 from typing import Optional
 
-from . import __version__
+from . import __version__, faults
 
 # Each is a module with a function `main`, which takes words and returns an exit status.
-PROGRAMS = {
-    "batch": "personalises cards by the hundred; needs pyscard (the extra `pcsc`)",
-    "simulate": "a card at vpcd or a serial line, which misbehaves if a file says so",
-    "trials": "lets a terminal do a job with up to 60 cards that misbehave",
-}
+PROGRAMS = {"batch": "personalises cards by the hundred; needs pyscard (the extra `pcsc`)",
+            "simulate": "a card at vpcd or a serial line, which misbehaves if a file says so",
+            "trials": "lets a terminal do a job with up to 60 cards that misbehave"}
 
 
+@faults.program
 def main(words: Optional[list[str]] = None) -> int:
     """Runs a program, or prints the help. Returns the exit status."""
     parser = argparse.ArgumentParser("galliumtoad", description="Both ends of a smart card.")

@@ -19,12 +19,13 @@ from typing import Any, Callable, Optional, Sequence
 from . import Application, Card, Command, Error
 from .faults import Mistake, mistakes
 
-Object = dict[str, Any]  # a line, or a TPDU in one, of `trace_explain --json --commands`
 LEAST_ATR = b"\x3B\x00"
 PATIENCE, LOOKS_EVERY = 10.0, 0.01  # seconds for a line of a program, and between looks at a line
 # A status of an application. What a program answers to a header, and to a command: data if any, SW.
-STATUS = "(?:9[0-9A-F]|6[2-9ABD-F])[0-9A-F]{2}"
+STATUS, BYTE, BYTES = "(?:9[0-9A-F]|6[2-9ABD-F])[0-9A-F]{2}", "[0-9A-F]{2}", "(?:[0-9A-F]{2})*"
 WAY, RESPONSE = "(to|from)-card", f"(?:((?:[0-9A-F]{{2}}){{1,4096}}) )?({STATUS})"
+PARTS = {**dict.fromkeys(("cla", "ins", "p1", "p2"), BYTE), "sent": BYTES, "received": BYTES,
+         "line": "[0-9]+", "status": f"(?:9[0-9A-F]|6[1-9A-F]){BYTE}"}  # of a TPDU
 
 
 def read_table(path: str) -> tuple[Card, bytes]:
@@ -66,7 +67,6 @@ def application(name: str) -> Application:
         raise Mistake(f"{name} is no Application")
     for it in ("takes_data", "carry_out", "settle", "reset"):
         setattr(made, it, mistakes(f"{name}.{it}", OSError, Error)(getattr(made, it)))
-
     def carry_out(command: Command, own: Any = made.carry_out) -> tuple[int, bytes]:
         given = own(command)
         with contextlib.suppress(TypeError, ValueError):
@@ -75,7 +75,6 @@ def application(name: str) -> Application:
                 return status_of(f"{status:04X}"), kept
         raise Mistake(f"{name}.carry_out returned {given!r:.100}, not a status and up to 4096 bytes"
                       " of data")
-
     setattr(made, "carry_out", carry_out)
     return made
 
@@ -97,9 +96,7 @@ class Program(Application):
     silent, ends or answers anything else is a `Mistake` with the line.
 
     >>> Program("sh -c 'read line; echo to-card; read line'").takes_data(bytes(4))
-    True
-    """
-
+    True"""
     fault: Optional[Mistake] = None  # the first one
 
     def __init__(self, command: str) -> None:
@@ -142,11 +139,11 @@ class Program(Application):
             raise self.fault from None
 
 
-def explained(path: str) -> list[Object]:
-    """The objects for a capture, or those in a file. Raises `Mistake`."""
+def explained(path: str) -> list[bytes]:
+    """The lines of JSON for a capture, or those in a file. Raises `Mistake`."""
     with mistakes(path):
         text = Path(path).read_bytes().removeprefix(b"\xEF\xBB\xBF")
-        if not text.startswith(b'{"type":'):
+        if not text.startswith(b"{"):
             if not (name := shutil.which("trace_explain")):
                 raise ValueError("trace_explain, which reads captures, is not on the PATH. It is in"
                                  " the repository's bindings/bin and Debian package galliumtoad")
@@ -154,7 +151,7 @@ def explained(path: str) -> list[Object]:
             if done.returncode:
                 raise ValueError(done.stderr.decode("utf-8", "replace").strip())
             text = done.stdout
-        return [json.loads(it) for it in text.splitlines() if it]
+        return text.splitlines()
 
 
 class Replay(Application):
@@ -165,23 +162,28 @@ class Replay(Application):
 
     def __init__(self, path: str, unknown: int = 0x6D00, is_strict: bool = False) -> None:
         self.path, self.unknown, self.is_strict, self.atr = path, unknown, is_strict, b""
-        found, self.place, self.sent = [list[Object]()], 0, list[str]()
-        with mistakes(f"{path}: not of trace_explain --json", LookupError, TypeError, ValueError):
-            for it in explained(path):
+        found, self.place, self.sent = [list[dict[str, Any]]()], 0, list[str]()
+        for at, text in enumerate(explained(path), 1):
+            with mistakes(f"{path}: line {at}: not of trace_explain --json"):
+                it = json.loads(text or '{"type": "none"}')
                 if it["type"] == "error" or it["type"] != "note" and '"masked"' in json.dumps(it):
                     raise Mistake(f"{path}: line {it['line']}: {it.get('text', 'a masked value')}")
                 if it["type"] in ("reset", "atr"):
                     found.append([])
                     self.atr = self.atr or bytes.fromhex(it.get("characters", ""))
                 for tpdu in it["tpdus"] if it["type"] == "command" else []:
-                    if len(tpdu.get("status", "")) == 4:  # else the session ends in it
-                        self.take(tpdu, found[-1])
+                    self.take({**tpdu}, found[-1])
         self.sessions = [it for it in found if it]
         if not self.sessions:
             raise Mistake(f"{path}: no command with an answer")
 
-    def take(self, it: Object, session: list[Object]) -> None:
-        """Takes a TPDU. The card itself answers GET RESPONSE, and the same command after 6CXX."""
+    def take(self, tpdu: dict[str, Any], session: list[dict[str, Any]]) -> None:
+        """Takes a whole TPDU. The card answers GET RESPONSE, and the same command after 6CXX."""
+        it = {name: str(tpdu.get(name, "")).upper() for name in PARTS}
+        if re.fullmatch(f"({BYTE})?", it["status"]):
+            return
+        if wrong := [name for name in PARTS if not re.fullmatch(PARTS[name], it[name])]:
+            raise ValueError(f"'{wrong[0]}' is {it[wrong[0]]!r:.60}")
         it["sent"] = "".join(it[name] for name in ("cla", "ins", "p1", "p2", "sent"))
         last = session[-1] if session else {"status": ""}
         waits = last["status"][:2]
@@ -212,8 +214,7 @@ class Replay(Application):
         return status, data
 
     def reset(self) -> None:
-        self.place = (self.place + bool(self.sent)) % len(self.sessions)
-        self.sent = []
+        self.place, self.sent = (self.place + bool(self.sent)) % len(self.sessions), []
 
     def instead(self, command: bytes) -> Optional[bytes]:
         """Answers in place of the card, or returns None. It answers a GET RESPONSE of the capture,

@@ -1,15 +1,16 @@
 """Faults of a card, one a line. Only this module changes, drops and inserts a card's bytes."""
 
 import contextlib
+import os
 import random
 import re
+import sys
 from functools import reduce
 from typing import Any, Callable, Iterable, Iterator, NamedTuple, Optional
 
-from .errors import Error
-
 ANYWHERE, LINE, T0, T1, ECHO = "anywhere", "a line", "a line at T=0", "a line at T=1", "an echo"
 GET_RESPONSE, OK, MORE = b"\xC0", b"\x90\x00", b"\x61\x10"
+CONTROLS = {it: f"\\x{it:02x}" for it in range(160) if it not in range(32, 127) and it != 10}
 # The forms of the words in capitals below, and what reads them.
 FORMS: dict[str, tuple[str, Callable[[str], Any]]] = {
     "N": ("[0-9]{1,7}", int), "PLACE": ("[1-9][0-9]{,6}", int),
@@ -21,8 +22,7 @@ FORMS: dict[str, tuple[str, Callable[[str], Any]]] = {
 # When a fault strikes: at this command, or at what fetches its response.
 WHENS: dict[str, Callable[[Any, Any], Any]] = {
     "command N": lambda now, number: now.is_next and now.count == number,
-    "every XX": lambda now, ins: now.ins == ins,
-    "INS XX once": lambda now, ins: now.ins == ins,
+    **dict.fromkeys(["every XX", "INS XX once"], lambda now, ins: now.ins == ins),
     "after N": lambda now, number: now.count > number,
     "p CHANCE": lambda now, chance: now.chance() < chance,
 }
@@ -53,8 +53,7 @@ KINDS: dict[str, tuple[str, Callable[..., Any]]] = {
     "abort": (T1, lambda sent: sent or block(0, 0xC2, b"")),
     "nad": (T1, lambda sent: flipped(sent[:-1], 0, 5) + flipped(sent[-1:], 0, 5)),
     "lrc": (T1, lambda sent: sent[:-1] + flipped(sent[-1:], *range(8))),
-    "double": (T1, lambda sent: sent + sent),
-    "lose": (T1, lambda sent: b""),
+    "double": (T1, lambda sent: sent + sent), "lose": (T1, lambda sent: b""),
     "wrong echo": (ECHO, lambda sent: flipped(sent, 0)),
 }
 
@@ -72,14 +71,32 @@ def mistakes(what: str, *kinds: type[Exception]) -> Iterator[None]:
     """Makes errors about a word or a file, which is `what`, a `Mistake`; or errors of `kinds`."""
     try:
         yield
-    except kinds or (AttributeError, ImportError, IndexError, OSError, ValueError, Error) as why:
-        raise Mistake(f"{what}: {why}") from None
+    except kinds or Exception as why:
+        raise why if isinstance(why, Mistake) else Mistake(f"{what}: {why}") from None
+
+
+def program(main: Callable[[Any], int]) -> Callable[..., int]:
+    """Makes a program of its `main`. The exit status is 2 after a `Mistake`, an interrupt, or if a
+    stream can't be written. A closed one is as /dev/null."""
+    def run(words: Optional[list[str]] = None) -> int:
+        sys.stdout, sys.stderr = (it or open(os.devnull, "w") for it in (sys.stdout, sys.stderr))
+        try:
+            return main(words)
+        except (Mistake, OSError, KeyboardInterrupt) as why:
+            print(str(why).translate(CONTROLS) or "interrupted", file=sys.stderr)
+            return 2
+        finally:
+            try:
+                sys.stdout.flush()
+                sys.stderr.flush()
+            except OSError:
+                vars(sys).update(stdout=None, stderr=None)  # else they fail again at the end
+                sys.exit(2)
+    return run
 
 
 class Fault(NamedTuple):
-    """A line of a file. `text` is its place and the line. `when` and `kind`, with their values, are
-    of the tables above, and so are where it can happen and what it changes."""
-
+    """A line of a file: its place and text, and what it is in the tables above."""
     text: str
     when: str
     number: Any
@@ -104,11 +121,10 @@ def matched(table: Iterable[str], words: str, wrong: str) -> tuple[str, list[Any
 
 
 def read(text: str, name: str = "faults") -> list[Fault]:
-    """Reads the lines of a file: WHEN, WHAT. Raises `Mistake` for the first line that is wrong.
+    """Reads the lines of a file: WHEN, WHAT. Raises `Mistake` for the first one that is wrong.
 
     >>> [(it.text, it.kind, it.values) for it in read("# one\\nINS CA once, cut 3")]
-    [('faults:2: INS CA once, cut 3', 'cut N', [3])]
-    """
+    [('faults:2: INS CA once, cut 3', 'cut N', [3])]"""
     found = []
     for line, words in enumerate(map(str.strip, text.splitlines()), 1):
         if words[:1] not in ("", "#"):
@@ -135,7 +151,6 @@ def flipped(data: bytes, *bits: int) -> bytes:
 class Faults:
     """Which faults strike. `tell` gets a line for each that does. No fault strikes, and no command
     counts, before one that begins with the bytes `since`, as far as they are known.
-
     `command N` counts commands from 1, without GET RESPONSE and a repetition after 6CXX: these are
     of the same command. What changes data waits while a response without data is 61XX or 6CXX."""
 
@@ -164,8 +179,7 @@ class Faults:
         if self.is_next:
             self.count, self.header, self.due, self.struck = self.count + 1, header[:4], [], []
         self.due = [it for it in self.due if it.kind in DATA or it.place == LINE]
-        self.due += [it for it in self.all
-                     if it not in self.due and WHENS[it.when](self, it.number)]
+        self.due += [f for f in self.all if f not in self.due and WHENS[f.when](self, f.number)]
         if self.edited(False, "forget"):
             return OK
         if self.edited(False, "6C again") or "6C again" in self.struck:
@@ -186,7 +200,7 @@ class Faults:
                 self.struck.append(it.kind)
                 if it.when == "INS XX once":
                     self.all.remove(it)
-                self.tell(f"fault at command {self.count}: {it.text}")
+                self.tell(f"fault at command {self.count}: {it.text}".translate(CONTROLS))
         return value
 
     def changed(self, answer: bytes) -> bytes:

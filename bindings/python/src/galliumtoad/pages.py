@@ -1,6 +1,9 @@
 """The look of the pages that the programs write: the colours of `trace_explain --html`, light and
 dark, and a table that becomes a list on a narrow screen."""
 
+import html
+from typing import Iterable, Sequence
+
 STYLE = """\
 :root { color-scheme: light dark; --ink: #1b2430; --soft: #5b6776; --page: #f5f6f8;
   --box: #ffffff; --line: #ccd3db; --to: #0b5fae; --from: #1d7a46; --bad: #b3261e;
@@ -32,3 +35,16 @@ def begin(title: str) -> str:
     return ('<!DOCTYPE html><html lang="en"><meta charset="utf-8">\n'
             '<meta name="viewport" content="width=device-width, initial-scale=1">\n'
             f"<title>{title}</title>\n<style>\n{STYLE}</style><h1>{title}</h1>\n")
+
+
+def table(head: Sequence[str], rows: Iterable[tuple[str, Sequence[str]]]) -> str:
+    """A table of texts, in which each row has a class.
+
+    >>> table(["a"], [("wrong", ["<"])])
+    '<table><tr><th>a</th></tr>\\n<tr class="wrong"><td>&lt;</td></tr>\\n</table>'
+    """
+    lines = [f"<tr>{''.join(f'<th>{it}</th>' for it in head)}</tr>"]
+    for kind, cells in rows:
+        made = "".join(f"<td>{html.escape(it)}</td>" for it in cells)
+        lines.append(f'<tr class="{kind}">{made}</tr>')
+    return "<table>" + "".join(f"{it}\n" for it in lines) + "</table>"

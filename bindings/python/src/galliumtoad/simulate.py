@@ -19,12 +19,11 @@ from . import (Application, Atr, AtrError, Card, Code, Command, CommandError, Ed
                Pps, PpsError)
 from .cards import (LEAST_ATR, LOOKS_EVERY, Program, Replay, application, next_byte, read_table,
                     status_of)
-from .faults import ECHO, LINE, OK, T0, T1, Faults, Gone, Mistake, block, mistakes, number, read
+from .faults import ECHO, LINE, OK, T0, T1, Faults, Gone, block, mistakes, number, program, read
 
-VPCD = "localhost:35963"
 POWER_OFF, POWER_ON, RESET, GET_ATR = (bytes([it]) for it in (0, 1, 2, 4))  # vpcd's own messages
 MUTE_FOR, AWAY_FOR = 10.0, 2.0  # seconds until the connection to vpcd closes, and opens again
-PPSS, DEFAULT_RATE, FOREVER = b"\xFF", 0x11, float("inf")
+VPCD, PPSS, DEFAULT_RATE, FOREVER = "localhost:35963", b"\xFF", 0x11, float("inf")
 RESYNCH, ABORT, RESPONSE, IS_PART = 0xC0, 0xC2, 0x20, 0x20  # of the PCB at T=1
 SIGNALS = {"cts": termios.TIOCM_CTS, "dsr": termios.TIOCM_DSR, "dcd": termios.TIOCM_CAR}
 TURNED = bytes(int(f"{byte:08b}"[::-1], 2) ^ 0xFF for byte in range(256))  # inverse convention
@@ -39,8 +38,7 @@ class Simulator(contextlib.ExitStack):
     >>> with Simulator(Card({bytes(5): {}}), faults=Faults(read("p 1, status 6A82"))) as reader:
     ...     reader(bytes.fromhex("00A40400050000000000")).hex()
     fault at command 1: faults:1: p 1, status 6A82
-    '6a82'
-    """
+    '6a82'"""
 
     def __init__(self, card: Union[Card, OwnCard], atr: bytes = LEAST_ATR,
                  faults: Optional[Faults] = None, shows: bool = False) -> None:
@@ -119,7 +117,6 @@ class Line(Application):
     """A card's end of a line of characters. At T=1 the library's end numbers, acknowledges and
     repeats blocks. In place of a command it gets one of its own, with a response as long as the
     card's, which replaces it. The last block has what exceeds the response to a short command."""
-
     ahead = b""  # the first character, which may begin a PPS request
 
     def __init__(self, of: Simulator, fd: int, has_echo: bool = False, baud: int = 9600,
@@ -188,13 +185,11 @@ class Line(Application):
 
     def talk_t0(self) -> None:
         self.of.level = Level.TPDU
-
         def more() -> bytes:
             """Takes the data of a TPDU, after a procedure byte."""
             self.begun = self.of.faults.edited(header[1:2], T0, LINE)
             self.write(self.begun)
             return self.take(lambda it: header[4])
-
         while True:
             header, self.begun = self.take(lambda it: 5), b""
             answer = self.of.whole(header, more)
@@ -309,14 +304,13 @@ def talk_vpcd(of: Simulator, line: socket.socket, tell: Callable[[str], object])
                     continue
                 if (looks := looks - (data == GET_ATR)) == 0:
                     tell("")
-                answer = of.atr if data == GET_ATR else of(data)
+                answer = (of.atr if data == GET_ATR else of(data))[:0xFFFF]
                 line.sendall(len(answer).to_bytes(2, "big") + answer)
         of.is_over.wait(MUTE_FOR if str(of.faults.gone) == "mute" else 0)
 
 
 def serve_vpcd(of: Simulator, address: str) -> None:
-    """Puts the card into vpcd's reader, again whenever the connection ends. While there is no
-    vpcd, it waits. It says so once on standard error, and each time that the card is in."""
+    """Puts the card into vpcd's reader, again whenever a connection ends. Prints when it waits."""
     waits = False
     of.faults.check([], "vpcd")
     while not of.is_over.is_set():
@@ -361,27 +355,26 @@ def parser() -> argparse.ArgumentParser:
     return it
 
 
+@program
 def main(words: Optional[list[str]] = None) -> int:
     """Runs the program. Returns the exit status."""
+    given = parser().parse_args(words)
+    own = Replay(given.replay, given.unknown, given.strict) if given.replay else given.own
+    card, atr = given.table or (OwnCard(own), getattr(own, "atr", b"") or LEAST_ATR)
+    text = mistakes(given.faults)(Path(given.faults or os.devnull).read_text)("utf-8-sig")
+    faults = Faults(read(text, given.faults), given.seed)
+    it = Simulator(card, given.atr or atr, faults, given.v)
     try:
-        given = parser().parse_args(words)
-        own = Replay(given.replay, given.unknown, given.strict) if given.replay else given.own
-        card, atr = given.table or (OwnCard(own), getattr(own, "atr", b"") or LEAST_ATR)
-        with mistakes(given.faults):
-            text = Path(given.faults).read_text("utf-8-sig") if given.faults else ""
-        faults = Faults(read(text, given.faults), given.seed)
-        with Simulator(card, given.atr or atr, faults, given.v) as simulator:
+        with contextlib.suppress(KeyboardInterrupt), it:
             if given.vpcd:
-                serve_vpcd(simulator, given.vpcd)
+                serve_vpcd(it, given.vpcd)
             elif given.pty:
-                serve_pty(simulator, not given.no_echo, lambda name: print(name, flush=True))
+                serve_pty(it, not given.no_echo, it.tell)
             else:
-                serve_tty(simulator, given.tty, int(given.baud), given.reset)
-    except (Mistake, OSError, termios.error) as why:
+                serve_tty(it, given.tty, int(given.baud), given.reset)
+    except (OSError, termios.error) as why:
         print(why, file=sys.stderr)
-        return 2 if isinstance(why, Mistake) else 1
-    except KeyboardInterrupt:
-        pass
+        return 1
     return 0
 
 

@@ -2,7 +2,6 @@
 the card holds and the terminal said. `python3 -m galliumtoad.trials --help` shows the program."""
 
 import argparse
-import html
 import json
 import os
 import re
@@ -18,8 +17,8 @@ from subprocess import DEVNULL, PIPE, STDOUT, Popen, TimeoutExpired
 from typing import Any, Optional
 
 from . import Card
-from .faults import ANYWHERE, T1, Faults, Mistake, number, read
-from .pages import begin
+from .faults import ANYWHERE, CONTROLS, T1, Faults, Mistake, number, program, read
+from .pages import begin, table
 from .simulate import VPCD, Simulator, connected, serve_pty, talk_vpcd
 
 AID, TAG = bytes.fromhex("A0000000031010"), 0x51
@@ -31,6 +30,7 @@ ATRS = [bytes.fromhex("3B00"), bytes.fromhex("3B800181")]  # T=0, T=1
 AWAIT_READER, GONE_AFTER = 60.0, 1.0  # seconds until a reader should have seen a card come, and go
 BAD = ("wrong", "twice", "hung", "crashed")
 VERDICTS = ("right", "told", "unmet", *BAD)
+HEAD = ["Trial", "Fault", "Verdict", "Last line", "What a good terminal does"]
 STAR = "* no terminal can see this fault, so it does not count"
 WORDS = {"aid": AID.hex().upper(), "tag": f"{TAG:02X}", "value": VALUE.hex().upper()}
 USAGE = """TERMINAL selects {aid}, puts {value} under {tag} in commands of up to 255 bytes, gets
@@ -42,7 +42,6 @@ serial line. Its exit status is 0 if all of that succeeded."""
 class Trial:
     """A fault of the list: its lines, its clause and what a good terminal does. If `is_unseen`, no
     terminal can see it. The rest is what a terminal made of it, `unmet` if it did not strike."""
-
     name: str
     faults: str
     says: str
@@ -65,8 +64,7 @@ def trials() -> list[Trial]:
     """Reads the list.
 
     >>> len(trials()), trials()[2].name, trials()[2].faults
-    (60, 'select without answer', 'command 1, mute')
-    """
+    (60, 'select without answer', 'command 1, mute')"""
     text = Path(__file__).with_name("trials.txt").read_text("utf-8")
     found = re.findall(r"^([^#\n].*?)(, unseen)?\n(.+)\n(.+)$", text, re.M)
     return [Trial(name, faults, says, bool(unseen)) for name, unseen, faults, says in found]
@@ -127,17 +125,14 @@ def tried(trial: Trial, given: argparse.Namespace) -> None:
         time.sleep(GONE_AFTER if line else 0)
     text = output.decode("ascii", "backslashreplace")
     lines = [it for it in text.splitlines() if WORDS["value"] not in it] or [""]
-    trial.verdict, trial.said = run.verdict(trial.status, text), lines[-1][:200]
+    trial.verdict, trial.said = run.verdict(trial.status, text), lines[-1].translate(CONTROLS)[:200]
 
 
 def as_html(results: list[Trial]) -> str:
     """The results as a page."""
-    rows = "".join(f'<tr class="{"" if it.is_unseen else it.verdict}">' + "".join(
-        f"<td>{html.escape(text)}" for text in (
-            it.name, it.faults, it.verdict + "*" * it.is_unseen, it.said, it.says)) + "\n"
-        for it in results)
-    return (f"{begin('Trials')}<table><tr><th>Trial<th>Fault<th>Verdict<th>Last line"
-            f"<th>What a good terminal does\n{rows}</table><p>{STAR}</html>\n")
+    rows = [(it.verdict * (not it.is_unseen), [
+        it.name, it.faults, it.verdict + "*" * it.is_unseen, it.said, it.says]) for it in results]
+    return f"{begin('Trials')}{table(HEAD, rows)}<p>{STAR}</html>\n"
 
 
 def parser() -> argparse.ArgumentParser:
@@ -167,30 +162,27 @@ def possible(given: argparse.Namespace) -> list[Trial]:
         given.is_line or it.places == {ANYWHERE})]
 
 
+@program
 def main(words: Optional[list[str]] = None) -> int:
     """Runs the program. Returns the exit status."""
     given = parser().parse_args(words)
-    try:
-        if given.list:
-            print("\n\n".join(f"{it.name}: {it.faults}\n{it.says}" for it in trials()))
-            return 0
-        if not (results := possible(given)):
-            raise Mistake(f"no trial that can happen there has {given.only!r} in its name")
-        width = max(len(it.name) for it in results)
-        for it in results:
-            tried(it, given)
-            print(f"{it.name:{width}}  {it.verdict:7}{'*' * it.is_unseen:1} {it.said}".rstrip(),
-                  flush=True)
-        counted = [it.verdict for it in results if not it.is_unseen]
-        counts = ", ".join(f"{counted.count(it)} {it}" for it in VERDICTS if it in counted)
-        print(counts, *[STAR] * (len(counted) < len(results)), sep="\n")
-        if given.json:
-            Path(given.json).write_text(json.dumps([asdict(it) for it in results], indent=1) + "\n")
-        if given.html:
-            Path(given.html).write_text(as_html(results), "utf-8")
-    except (Mistake, OSError, KeyboardInterrupt) as why:
-        print(str(why) or "interrupted", file=sys.stderr)
-        return 2
+    if given.list:
+        print("\n\n".join(f"{it.name}: {it.faults}\n{it.says}" for it in trials()))
+        return 0
+    if not (results := possible(given)):
+        raise Mistake(f"no trial that can happen there has {given.only!r} in its name")
+    held = [open(it, "a") for it in (given.json, given.html) if it]  # or it ends before the run
+    n = max(len(it.name) for it in results)
+    for it in results:
+        tried(it, given)
+        print(f"{it.name:{n}}  {it.verdict:7}{'*' * it.is_unseen:1} {it.said}".rstrip(), flush=True)
+    counted = [it.verdict for it in results if not it.is_unseen]
+    counts = ", ".join(f"{counted.count(it)} {it}" for it in VERDICTS if it in counted)
+    print(counts, *[STAR] * (len(counted) < len(results)), sep="\n", flush=True)
+    if given.json:
+        Path(given.json).write_text(json.dumps([asdict(it) for it in results], indent=1) + "\n")
+    if given.html:
+        Path(given.html).write_text(as_html(results), "utf-8")
     return int(not set(BAD).isdisjoint(counted))
 
 

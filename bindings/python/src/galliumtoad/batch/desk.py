@@ -20,6 +20,7 @@ from smartcard.pcsc.PCSCCardConnection import PCSCCardConnection
 
 from . import report
 from ..errors import Error
+from ..faults import CONTROLS
 from ..pyscard import transport
 from ..terminal import Put, Send, Terminal
 from .journal import Journal
@@ -28,7 +29,7 @@ from .script import Recorder, Refused, Rows, carry_out, check_of, compared, iden
 FAILURES_IN_A_ROW = 5
 PAUSE = 1.0  # between two looks for a reader that went away, and two reports
 PRESENT = scard.SCARD_STATE_PRESENT  # the upper 16 bits of a state count cards
-_WIPE = "\r\x1b[K"  # removes the bar
+WIPE = "\r\x1b[K"  # removes the bar
 
 
 class Gone(OSError):
@@ -85,10 +86,10 @@ class Desk:
         self._begun, self._done_before = time.monotonic(), journal.count("done")
         self._looked, self._reported, self._is_told = 0.0, -1, False
 
-    def say(self, line: str) -> None:
+    def say(self, it: str) -> None:
         """Prints a line above the bar."""
         with self._alone:
-            print(f"{self._bar and _WIPE}{line}\n{self._bar}", end="", flush=True)
+            print(f"{self._bar and WIPE}{it.translate(CONTROLS)}\n{self._bar}", end="", flush=True)
 
     def keep(self, row: int, lines: list[str]) -> None:
         """Adds a failed or unsure row's dialogue to its file. The `--stop-after`th ends the run."""
@@ -124,7 +125,7 @@ class Desk:
                     it.join()
                 elif it.row and self.journal.state(it.row) == "unsure":  # another may begin still
                     it.give_up()
-            print(self._bar and _WIPE, end="", flush=True)
+            print(self._bar and WIPE, end="", flush=True)
 
     def _interrupt(self, *_: object) -> None:
         self._interrupts += 1
@@ -150,7 +151,7 @@ class Desk:
                 full = f"{'#' * (all_of and done * 20 // all_of):-<20}"
                 with self._alone:
                     self._bar = f"[{full}] {done} of {all_of} rows, {rate:.0f} a minute{left}"
-                    print(f"{_WIPE}{self._bar}", end="", flush=True)
+                    print(f"{WIPE}{self._bar}", end="", flush=True)
         time.sleep(0.1)
         # A job in the background must not read, nor one of another session than its terminal.
         with contextlib.suppress(OSError):

@@ -6,7 +6,7 @@ import sys
 from typing import Iterator, Optional
 
 from . import report
-from ..faults import number
+from ..faults import CONTROLS, number, program
 from ..handle import within
 from .journal import Heading, Journal, create, place_of, refuse_a_second
 from .script import Rows, check_of, steps_of, tag
@@ -66,7 +66,7 @@ def finished(journals: list[Journal], path: Optional[str]) -> int:
         card = f"card {it.card}" if it.card else "a card without an id"
         when = it.begun.astimezone().strftime("%Y-%m-%d %H:%M:%S")
         why = it.reason or "the run ended before the row did"
-        print(f"row {row} {it.state}: {card}, {it.reader}, {when}: {why}")
+        print(f"row {row} {it.state}: {card}, {it.reader}, {when}: {why}".translate(CONTROLS))
         print(f"  --look {row} compares that card; then --done {row} or --again {row}")
     report.write(path, journals)
     print(f"{counts['done']} of {all_of} rows done, {len(undecided)} to decide", flush=True)
@@ -125,7 +125,7 @@ def work(given: argparse.Namespace) -> int:
         desk.chosen(given.reader)
     journals = opened(given, rows)
     if given.check:
-        print(f"{len(rows)} rows, and no mistake")
+        print(f"{len(rows)} rows, and no mistake", flush=True)
         return 0
     if given.look:
         return desk.look(rows, journals[0], given)
@@ -137,6 +137,7 @@ def work(given: argparse.Namespace) -> int:
     return finished(journals, given.report) or int(bool(run.faults))
 
 
+@program
 def main(words: Optional[list[str]] = None) -> int:
     """Runs the program. Returns its exit status."""
     getattr(sys.stdout, "reconfigure", dict)(errors="backslashreplace")  # for names of readers
@@ -151,5 +152,6 @@ def main(words: Optional[list[str]] = None) -> int:
         lines = (str(error) or "interrupted").split("\n")
     if len(lines) > _SHOWN:
         lines[_SHOWN:] = [f"and {len(lines) - _SHOWN} more mistakes"]
-    print(*(f"galliumtoad.batch: {line}" for line in lines), sep="\n", file=sys.stderr)
+    text = "\n".join(f"galliumtoad.batch: {line}" for line in lines)
+    print(text.translate(CONTROLS), file=sys.stderr)
     return 2

@@ -1,7 +1,6 @@
 """The report of a batch, as a page or as a table: each row that has begun, and totals."""
 
 import csv
-import html
 import io
 import os
 from collections import Counter
@@ -9,7 +8,7 @@ from datetime import timedelta
 from statistics import median
 from typing import Optional
 
-from ..pages import begin
+from ..pages import begin, table
 from .journal import Entry, Journal
 
 _HEAD = ["row", "id", "reader", "time", "seconds", "outcome", "reason"]
@@ -36,13 +35,11 @@ def write(path: Optional[str], journals: list[Journal]) -> None:
     if path.endswith(".csv"):
         csv.writer(text).writerows(lines)
     else:
-        cells = ((it[5], "".join(f"<td>{html.escape(cell)}</td>" for cell in it)) for it in lines)
         text.write(f"""{begin("Batch")}<p>{counts['done']} of {all_of} rows done, \
 {counts['failed']} failed, {counts['unsure']} unsure</p>
-{_picture([it for it in rows.values() if it.state == "done"])}<table>
+{_picture([it for it in rows.values() if it.state == "done"])}
+{table(_HEAD, [(it[5], it) for it in lines[1:]])}</html>
 """)
-        text.writelines(f'<tr class="{kind}">{it}</tr>\n' for kind, it in cells)
-        text.write("</table></html>\n")
     with open(f"{path}.{os.getpid()}.new", "w", -1, "utf-8", "backslashreplace", "") as file:
         file.write(text.getvalue())
         file.flush()

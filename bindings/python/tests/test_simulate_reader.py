@@ -2,6 +2,7 @@
 
 import os
 import platform
+import shutil
 import socket
 import subprocess
 import sys
@@ -11,7 +12,6 @@ import pytest
 from galliumtoad import simulate
 from room import SCRIPT, folder_of_programs
 from test_applications import CARDS, dialogue
-from test_reader import PRIVATE, missing, namespace
 from test_simulate_replay import CAPTURES, SIM
 from waiting import SECONDS, wait_until
 
@@ -54,9 +54,31 @@ print(state >> 16, time.monotonic() - begun)
 """
 
 
+# pcscd has its socket at a fixed place. In a private mount namespace that is a folder of the test.
+PRIVATE = ["sh", "-c", 'mkdir -p /run/pcscd && mount --bind "$0" /run/pcscd && exec "$@"']
+
+
 def lacks():
     """What is missing on this machine, or None."""
-    return missing() or (None if os.path.exists(VPCD) else "there is no vpcd")
+    for name in ("pcscd", "unshare", "pkg-config", "make", "cc"):
+        if not shutil.which(name):
+            return f"there is no {name}"
+    if subprocess.run(["pkg-config", "--exists", "libpcsclite"]).returncode:
+        return "there is no libpcsclite with its headers"
+    if subprocess.run([sys.executable, "-c", "import smartcard"]).returncode:
+        return "there is no pyscard"
+    if not os.path.exists(VPCD):
+        return "there is no vpcd"
+    return None if namespace() else "a namespace of its own can't be had"
+
+
+def namespace():
+    """The words that run a program in a mount namespace, with or without the rights of root."""
+    for words in (["unshare", "-m"], ["unshare", "-rm"]):
+        tried = subprocess.run([*words, *PRIVATE, "/tmp", "true"], stderr=subprocess.DEVNULL)
+        if tried.returncode == 0:
+            return words
+    return None
 
 
 pytestmark = pytest.mark.skipif(lacks() is not None, reason=str(lacks()))

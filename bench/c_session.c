@@ -8,6 +8,8 @@
  * - characters: the same, one character at a time.
  * - tpdus: the same, by whole TPDUs.
  * - apdus: the same, by whole commands. The characters are those of the TPDUs.
+ * - t1: the same over T=1, with the library's ends. So apdus is the same without T=1.
+ * - t1_by_hand: the same with the ends of t1_by_hand.c.
  * - by_hand: both ends of ends_by_hand.c, one character at a time.
  * - hand_buffers: the same by buffers.
  * - own_buffers, own_characters, own_tpdus, own_apdus: a terminal, and a card of your own that
@@ -16,8 +18,7 @@
 #define _POSIX_C_SOURCE 199309L
 
 #include "ends_by_hand.h"
-
-#include <galliumtoad.h>
+#include "t1_by_hand.h"
 
 #include <stdio.h>
 #include <stdlib.h>
@@ -242,14 +243,83 @@ static void pass_apdu(const uint8_t *apdu, size_t n)
     need(turn == GT_OK && gt_terminal_responded(&terminal, came, size) == GT_OK, "a command");
 }
 
-static uint16_t apdus_carry_out(const struct load *load, size_t *len)
+/* In each way for itself, as a caller would write it. */
+static inline __attribute__((always_inline)) uint16_t
+by_commands(const struct load *load, size_t *len, void (*pass)(const uint8_t *apdu, size_t n))
 {
     uint8_t apdu[GT_APDU_LIMIT];
     size_t n, most;
     begin(load);
     while (gt_terminal_apdu(&terminal, apdu, &n, &most) == GT_OK)
-        pass_apdu(apdu, n);
+        pass(apdu, n);
     return answer(len);
+}
+
+static uint16_t apdus_carry_out(const struct load *load, size_t *len)
+{
+    return by_commands(load, len, pass_apdu);
+}
+
+/* ---- Commands over T=1, by blocks ------------------------------------------------------------ */
+
+static gt_t1 end;
+static size_t passed_blocks; /* their bytes */
+
+static void t1_start(void)
+{
+    ends_start();
+    need(gt_card_t1_begin(&card) == GT_OK
+         && gt_t1_new(&end, GT_LRC, 254, GT_T1_TRIES, GT_T1_EXTENSIONS, GT_ANSWER_LIMIT) == GT_OK,
+         "the ends");
+}
+
+static void pass_blocks(const uint8_t *apdu, size_t n)
+{
+    uint8_t block[GT_BLOCK_LIMIT], came[GT_ANSWER_LIMIT], waits;
+    size_t size, taken;
+    need(gt_t1_begin(&end, apdu, n) == GT_OK, "a command");
+    while (gt_t1_send_bytes(&end, block, sizeof block, &size, &waits) == GT_OK) {
+        passed_blocks += size;
+        need(gt_card_t1_receive_bytes(&card, block, size, &taken) == GT_SENDS
+             && gt_card_t1_send_bytes(&card, block, sizeof block, &size) == GT_OK, "an answer");
+        passed_blocks += size;
+        need(gt_t1_receive_bytes(&end, block, size, &taken) == GT_SENDS, "a block");
+    }
+    need(gt_t1_response(&end, came, sizeof came, &size) == GT_OK
+         && gt_terminal_responded(&terminal, came, size) == GT_OK, "a response");
+}
+
+static uint16_t t1_carry_out(const struct load *load, size_t *len)
+{
+    return by_commands(load, len, pass_blocks);
+}
+
+static struct t1_card hand_t1_card;
+static struct t1_terminal hand_end;
+
+static void hand_t1_start(void)
+{
+    ends_start();
+    hand_t1_card.card = &card;
+    hand_t1_card.ifsd = hand_end.ifsc = 254;
+}
+
+static void pass_blocks_by_hand(const uint8_t *apdu, size_t n)
+{
+    uint8_t block[GT_BLOCK_LIMIT], came[GT_BLOCK_LIMIT];
+    size_t size = t1_terminal_begins(&hand_end, apdu, n, block);
+    while (size > 0) {
+        const size_t back = t1_card_takes(&hand_t1_card, block, size, came);
+        passed_blocks += size + back;
+        size = t1_terminal_takes(&hand_end, came, back, block);
+    }
+    need(gt_terminal_responded(&terminal, hand_end.response.bytes, hand_end.response.n) == GT_OK,
+         "a response");
+}
+
+static uint16_t hand_t1_carry_out(const struct load *load, size_t *len)
+{
+    return by_commands(load, len, pass_blocks_by_hand);
 }
 
 /* ---- The two ends by hand -------------------------------------------------------------------- */
@@ -335,6 +405,8 @@ static const struct way {
     { "data_characters", data_start, characters_carry_out },
     { "data_tpdus", data_start, tpdus_carry_out },
     { "data_apdus", data_start, apdus_carry_out },
+    { "t1", t1_start, t1_carry_out },
+    { "t1_by_hand", hand_t1_start, hand_t1_carry_out },
     { "by_hand", hand_start, hand_carry_out },
     { "hand_buffers", hand_start, hand_buffers },
 };
@@ -384,12 +456,15 @@ static void measure(const struct way *way, const struct load *load)
 {
     double seconds;
     check_characters(way, load);
+    passed_blocks = 0;
     seconds = processor_time();
     repeated(way, load, load->times);
     seconds = processor_time() - seconds;
     printf("%s: %d TPDUs, %lu characters\n  %ld times in %.2f s, %.2f ns a character\n", load->name,
            load->tpdus, (unsigned long)load->characters, load->times, seconds,
            seconds * 1e9 / ((double)load->times * (double)load->characters));
+    if (passed_blocks > 0)
+        printf("  %.1f million bytes of blocks a second\n", (double)passed_blocks / seconds / 1e6);
 }
 
 /* Carries out `times` operations for a profiler. As many precede them uncounted, so that memory is

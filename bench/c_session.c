@@ -8,13 +8,17 @@
  * - characters: the same, one character at a time.
  * - tpdus: the same, by whole TPDUs.
  * - apdus: the same, by whole commands. The characters are those of the TPDUs.
+ * - t1: the same over T=1, with the library's ends. So apdus is the same without T=1.
+ * - t1_by_hand: the same with the ends of t1_by_hand.c.
  * - by_hand: both ends of ends_by_hand.c, one character at a time.
- * - hand_buffers: the same by buffers. */
+ * - hand_buffers: the same by buffers.
+ * - own_buffers, own_characters, own_tpdus, own_apdus: a terminal, and a card of your own that
+ *   answers each get with its object, which has at most 4,000 bytes.
+ * - data_buffers and so on: the same with a card of data objects. */
 #define _POSIX_C_SOURCE 199309L
 
 #include "ends_by_hand.h"
-
-#include <galliumtoad.h>
+#include "t1_by_hand.h"
 
 #include <stdio.h>
 #include <stdlib.h>
@@ -23,7 +27,7 @@
 
 static const uint8_t AID[] = { 0xA0, 0x00, 0x00, 0x00, 0x03, 0x10, 0x10 };
 
-enum { CONTENT = 0x42, BUFFER = 512, OK = 0x9000 };
+enum { CONTENT = 0x42, BUFFER = 512, OK = 0x9000, OWN_VALUE = 4000 };
 
 enum task { TASK_SELECT, TASK_GET, TASK_PUT };
 
@@ -38,7 +42,7 @@ struct load {
     long times;
 };
 
-static const struct load LOADS[] = {
+static struct load LOADS[] = {
     { "get of 3 bytes", TASK_GET, 0x5F20, 3, 2, 21, 1000000 },
     { "get of 20 bytes", TASK_GET, 0x5F50, 20, 2, 38, 500000 },
     { "put of 20 bytes", TASK_PUT, 0x5F50, 20, 1, 28, 1000000 },
@@ -72,7 +76,7 @@ static void build(gt_card *card)
     need(gt_card_new(card) == GT_OK && gt_card_app(card, AID, sizeof AID) == GT_OK, "a card");
     for (i = 0; i < 2; i++)
         need(gt_card_object(card, LOADS[i].tag, value, LOADS[i].size, 0) == GT_OK, "an object");
-    need(gt_card_object(card, 0x50, value, sizeof value, 0) == GT_OK, "an object");
+    need(gt_card_object(card, 0x50, value, LOADS[4].size, 0) == GT_OK, "an object");
     need(gt_card_finish(card) == GT_OK, "a card");
 }
 
@@ -115,6 +119,43 @@ static void ends_start(void)
     need(gt_terminal_new(&terminal) == GT_OK, "a terminal");
 }
 
+/* A card of your own answers the commands of a get with this, and others with a status alone. */
+static uint8_t object[OWN_VALUE + 4];
+static size_t object_size;
+
+static void own_start(void)
+{
+    static const uint8_t directions[32] = GT_ISO_DIRECTIONS;
+    LOADS[3].size = LOADS[4].size = OWN_VALUE;
+    need(gt_card_own(&card, directions) == GT_OK && gt_terminal_new(&terminal) == GT_OK, "ends");
+}
+
+static void data_start(void)
+{
+    LOADS[3].size = LOADS[4].size = OWN_VALUE;
+    ends_start();
+}
+
+static void make_object(const struct load *load)
+{
+    size_t head;
+    need(gt_head(load->tag, (uint16_t)load->size, object, &head) == GT_OK, "a head");
+    memcpy(object + head, value, load->size);
+    object_size = head + load->size;
+}
+
+/* Answers the command that waits at a card of your own. */
+static bool respond(int32_t turn)
+{
+    gt_command command;
+    if (turn != GT_COMMAND)
+        return false;
+    need(gt_card_command(&card, &command) == GT_OK
+         && gt_card_respond(&card, object, command.size ? 0 : object_size, OK) == GT_OK,
+         "a response");
+    return true;
+}
+
 static void begin(const struct load *load)
 {
     int32_t code;
@@ -140,11 +181,14 @@ static uint16_t characters_carry_out(const struct load *load, size_t *len)
     int32_t turn;
     begin(load);
     while ((turn = gt_terminal_next(&terminal, &byte)) != GT_DONE) {
-        if (turn == GT_SENDS)
+        if (turn == GT_SENDS) {
             need(gt_card_take(&card, byte) == GT_OK, "the card listens");
-        else
-            need(turn == GT_OK && gt_card_turn(&card, &byte) == GT_SENDS
-                 && gt_terminal_take(&terminal, byte) == GT_OK, "the terminal listens");
+            continue;
+        }
+        while (respond(turn = gt_card_turn(&card, &byte)))
+            continue;
+        need(turn == GT_SENDS && gt_terminal_take(&terminal, byte) == GT_OK,
+             "the terminal listens");
     }
     return answer(len);
 }
@@ -160,9 +204,12 @@ static uint16_t buffers_carry_out(const struct load *load, size_t *len)
         need(gt_card_receive_bytes(&card, buffer, n, &taken) == GT_OK, "the card listens");
         if (turn == GT_DONE)
             return answer(len);
-        need(turn == GT_OK && gt_card_send_bytes(&card, buffer, sizeof buffer, &n) == GT_OK
-             && gt_terminal_receive_bytes(&terminal, buffer, n, &taken) == GT_OK,
-             "the terminal listens");
+        do {
+            turn = gt_card_send_bytes(&card, buffer, sizeof buffer, &n);
+            need(n == 0 || gt_terminal_receive_bytes(&terminal, buffer, n, &taken) == GT_OK,
+                 "the terminal listens");
+        } while (respond(turn));
+        need(turn == GT_OK, "the card listens");
     }
 }
 
@@ -170,8 +217,10 @@ static void pass_tpdu(const uint8_t *tpdu, size_t n)
 {
     static uint8_t came[GT_ANSWER_LIMIT];
     size_t size;
-    need(gt_card_tpdu(&card, tpdu, n, came, sizeof came, &size) == GT_OK
-         && gt_terminal_answered(&terminal, came, size) == GT_OK, "a TPDU");
+    int32_t turn = gt_card_tpdu(&card, tpdu, n, came, sizeof came, &size);
+    while (respond(turn))
+        turn = gt_card_tpdu(&card, NULL, 0, came, sizeof came, &size);
+    need(turn == GT_OK && gt_terminal_answered(&terminal, came, size) == GT_OK, "a TPDU");
 }
 
 static uint16_t tpdus_carry_out(const struct load *load, size_t *len)
@@ -188,18 +237,89 @@ static void pass_apdu(const uint8_t *apdu, size_t n)
 {
     static uint8_t came[GT_ANSWER_LIMIT];
     size_t size;
-    need(gt_card_apdu(&card, apdu, n, came, sizeof came, &size) == GT_OK
-         && gt_terminal_responded(&terminal, came, size) == GT_OK, "a command");
+    int32_t turn = gt_card_apdu(&card, apdu, n, came, sizeof came, &size);
+    while (respond(turn))
+        turn = gt_card_apdu(&card, NULL, 0, came, sizeof came, &size);
+    need(turn == GT_OK && gt_terminal_responded(&terminal, came, size) == GT_OK, "a command");
 }
 
-static uint16_t apdus_carry_out(const struct load *load, size_t *len)
+/* In each way for itself, as a caller would write it. */
+static inline __attribute__((always_inline)) uint16_t
+by_commands(const struct load *load, size_t *len, void (*pass)(const uint8_t *apdu, size_t n))
 {
     uint8_t apdu[GT_APDU_LIMIT];
     size_t n, most;
     begin(load);
     while (gt_terminal_apdu(&terminal, apdu, &n, &most) == GT_OK)
-        pass_apdu(apdu, n);
+        pass(apdu, n);
     return answer(len);
+}
+
+static uint16_t apdus_carry_out(const struct load *load, size_t *len)
+{
+    return by_commands(load, len, pass_apdu);
+}
+
+/* ---- Commands over T=1, by blocks ------------------------------------------------------------ */
+
+static gt_t1 end;
+static size_t passed_blocks; /* their bytes */
+
+static void t1_start(void)
+{
+    ends_start();
+    need(gt_card_t1_begin(&card) == GT_OK
+         && gt_t1_new(&end, GT_LRC, 254, GT_T1_TRIES, GT_T1_EXTENSIONS, GT_ANSWER_LIMIT) == GT_OK,
+         "the ends");
+}
+
+static void pass_blocks(const uint8_t *apdu, size_t n)
+{
+    uint8_t block[GT_BLOCK_LIMIT], came[GT_ANSWER_LIMIT], waits;
+    size_t size, taken;
+    need(gt_t1_begin(&end, apdu, n) == GT_OK, "a command");
+    while (gt_t1_send_bytes(&end, block, sizeof block, &size, &waits) == GT_OK) {
+        passed_blocks += size;
+        need(gt_card_t1_receive_bytes(&card, block, size, &taken) == GT_SENDS
+             && gt_card_t1_send_bytes(&card, block, sizeof block, &size) == GT_OK, "an answer");
+        passed_blocks += size;
+        need(gt_t1_receive_bytes(&end, block, size, &taken) == GT_SENDS, "a block");
+    }
+    need(gt_t1_response(&end, came, sizeof came, &size) == GT_OK
+         && gt_terminal_responded(&terminal, came, size) == GT_OK, "a response");
+}
+
+static uint16_t t1_carry_out(const struct load *load, size_t *len)
+{
+    return by_commands(load, len, pass_blocks);
+}
+
+static struct t1_card hand_t1_card;
+static struct t1_terminal hand_end;
+
+static void hand_t1_start(void)
+{
+    ends_start();
+    hand_t1_card.card = &card;
+    hand_t1_card.ifsd = hand_end.ifsc = 254;
+}
+
+static void pass_blocks_by_hand(const uint8_t *apdu, size_t n)
+{
+    uint8_t block[GT_BLOCK_LIMIT], came[GT_BLOCK_LIMIT];
+    size_t size = t1_terminal_begins(&hand_end, apdu, n, block);
+    while (size > 0) {
+        const size_t back = t1_card_takes(&hand_t1_card, block, size, came);
+        passed_blocks += size + back;
+        size = t1_terminal_takes(&hand_end, came, back, block);
+    }
+    need(gt_terminal_responded(&terminal, hand_end.response.bytes, hand_end.response.n) == GT_OK,
+         "a response");
+}
+
+static uint16_t hand_t1_carry_out(const struct load *load, size_t *len)
+{
+    return by_commands(load, len, pass_blocks_by_hand);
 }
 
 /* ---- The two ends by hand -------------------------------------------------------------------- */
@@ -277,6 +397,16 @@ static const struct way {
     { "characters", ends_start, characters_carry_out },
     { "tpdus", ends_start, tpdus_carry_out },
     { "apdus", ends_start, apdus_carry_out },
+    { "own_buffers", own_start, buffers_carry_out },
+    { "own_characters", own_start, characters_carry_out },
+    { "own_tpdus", own_start, tpdus_carry_out },
+    { "own_apdus", own_start, apdus_carry_out },
+    { "data_buffers", data_start, buffers_carry_out },
+    { "data_characters", data_start, characters_carry_out },
+    { "data_tpdus", data_start, tpdus_carry_out },
+    { "data_apdus", data_start, apdus_carry_out },
+    { "t1", t1_start, t1_carry_out },
+    { "t1_by_hand", hand_t1_start, hand_t1_carry_out },
     { "by_hand", hand_start, hand_carry_out },
     { "hand_buffers", hand_start, hand_buffers },
 };
@@ -326,12 +456,15 @@ static void measure(const struct way *way, const struct load *load)
 {
     double seconds;
     check_characters(way, load);
+    passed_blocks = 0;
     seconds = processor_time();
     repeated(way, load, load->times);
     seconds = processor_time() - seconds;
     printf("%s: %d TPDUs, %lu characters\n  %ld times in %.2f s, %.2f ns a character\n", load->name,
            load->tpdus, (unsigned long)load->characters, load->times, seconds,
            seconds * 1e9 / ((double)load->times * (double)load->characters));
+    if (passed_blocks > 0)
+        printf("  %.1f million bytes of blocks a second\n", (double)passed_blocks / seconds / 1e6);
 }
 
 /* Carries out `times` operations for a profiler. As many precede them uncounted, so that memory is
@@ -355,14 +488,16 @@ int main(int argc, char **argv)
             continue;
         WAYS[i].start();
         carry_out(&WAYS[i], &SELECTION);
-        for (j = 0; j < sizeof LOADS / sizeof *LOADS; j++)
+        for (j = 0; j < sizeof LOADS / sizeof *LOADS; j++) {
+            if (LOADS[j].size <= OWN_VALUE)
+                make_object(&LOADS[j]);
             if (times > 0)
                 count(&WAYS[i], &LOADS[j], times);
             else
                 measure(&WAYS[i], &LOADS[j]);
+        }
         return 0;
     }
-    fail("one word: session, heard, buffers, characters, tpdus, apdus, by_hand or "
-         "hand_buffers");
+    fail("the first word is a way");
     return 1;
 }

@@ -1,7 +1,4 @@
-#!/usr/bin/env python3
-"""Turns the scripts of the book of examples into what gt_pcsc can run, for try_pcsc and try_book.
-
-usage: book.py FOLDER   writes N.title, N.table, N.play and N.wanted for each script
+"""Turns the scripts of the book of examples into what gt_pcsc can run, for try_pcsc.
 
 A table has the script's lines for the card, with all bytes written out. The operations are those
 up to the first reset, without plans, since these are for characters. The answers are those of the
@@ -9,7 +6,6 @@ script's output. An operation that card_trace does not begin, since the card is 
 out."""
 
 import re
-import sys
 from pathlib import Path
 
 BOOK = Path(__file__).resolve().parent.parent.parent.parent / "examples"
@@ -38,13 +34,3 @@ def scripts():
     """Each script: its name, and its parts."""
     for script in sorted(BOOK.rglob("*.play")):
         yield str(script.relative_to(BOOK)), *parts_of_script(script)
-
-
-def main(folder):
-    for number, parts in enumerate(scripts()):
-        for kind, text in zip(("title", "table", "play", "wanted"), parts):
-            (Path(folder) / f"{number}.{kind}").write_text(text)
-
-
-if __name__ == "__main__":
-    main(*sys.argv[1:])

@@ -111,28 +111,6 @@ static void stored(gt_card *c, size_t n) {
     GONE();
 }
 
-/* Each answer except 9000 drops a chain, whether the put is refused before or after its data. */
-static void refused(gt_card *c) {
-    static const uint8_t le[] = { 0x00, 0xCA, 0x5F, 0x20, 0x01 };
-    CHECK(put(c, TEMPLATE, LONG), 0x6A80);
-    GONE();
-    CHECK(piece(c, 0x00, TEMPLATE, secret, PIECE), 0x6A80);
-    GONE();
-    begun(c, TAG, LONG);
-    CHECK(piece(c, 0x10, LOCKED, secret, 1), 0x6883);
-    GONE();
-    begun(c, TAG, LONG);
-    CHECK(tpdu(c, le, sizeof le), 0x6883);
-    GONE();
-    CHECK(put(c, TAG, GT_VALUE_LIMIT + 1), 0x6700);
-    GONE();
-    CHECK(piece(c, 0x00, LOCKED, secret, PIECE), 0x6982);
-    GONE();
-    begun(c, TAG, LONG);
-    CHECK(select_app(c), 0x6883);
-    GONE();
-}
-
 /* A session without a listener keeps nothing of a value. With one it keeps the last operation until
  * the next one, `gt_session_listen` or the end. */
 static void in_a_session(gt_card *c) {
@@ -444,7 +422,6 @@ int main(void) {
     for (i = 0; i + 1 < sizeof secret; i++) secret[i + 1] = behind(secret[i]);
     build(&card);
     for (i = 0; i < sizeof sizes / sizeof *sizes; i++) stored(&card, sizes[i]);
-    refused(&card);
     in_a_session(&card);
     card_at_t1(&card);
     at_t1(false);

@@ -10,7 +10,6 @@
 #define SELECT "\x00\xA4\x04\x00\x07" AID
 
 static gt_card card;
-static gt_session session;
 static uint8_t bytes[20];
 static size_t n;
 
@@ -42,32 +41,7 @@ static void of_plans(void) {
     gt_card_free(&card);
 }
 
-/* As many wait in a session. An operation that is refused keeps them, and the next one drops those
- * that it leaves. */
-static void of_plans_of_a_session(void) {
-    static char nulls[601];
-    uint16_t status;
-    size_t i;
-    memset(nulls, 'n', 600);
-    build();
-    CHECK(gt_session_start(&session, &card), GT_OK);
-    CHECK(gt_session_listen(&session), GT_OK);
-    for (i = 0; i < GT_PLANS_LIMIT; i++)
-        if (gt_session_plan(&session, i == 0 ? nulls : "", 256) != GT_OK) break;
-    CHECK(i, GT_PLANS_LIMIT);
-    CHECK(gt_session_plan(&session, "n", 256), GT_PLANS);
-    CHECK(gt_session_select(&session, BYTES("\xA0"), &status, bytes, 20, &n), GT_ARGUMENT);
-    for (i = 0; i < 2; i++) {
-        CHECK(gt_session_select(&session, BYTES(AID), &status, bytes, 20, &n), GT_OK);
-        CHECK(gt_session_heard(&session, NULL, 0, &n), GT_BUFFER);
-        CHECK(n, i == 0 ? 634 : 34);
-    }
-    CHECK(gt_session_plan(&session, nulls, 256), GT_OK);
-    gt_session_free(&session);
-}
-
 int main(void) {
     of_plans();
-    of_plans_of_a_session();
     return check_result("plans");
 }

@@ -191,10 +191,11 @@ class Room:
         files = [it for it in self.path.glob("cards/*") if it.suffix == ""]
         return {it.name: json.loads(it.read_text()) for it in files}
 
-    def cards_of(self, row):
+    def cards_of(self, row, held=None):
         """Counts the cards with all values of a row, and those with some of them."""
         whole = {"24352": f"PERSON {row}".encode().hex(), "40758": f"{row:08x}", "80": "41" * 300}
-        mine = [it for it in self.held().values() if it.get("24352") == whole["24352"]]
+        held = self.held() if held is None else held
+        mine = [it for it in held.values() if it.get("24352") == whole["24352"]]
         return sum(whole.items() <= it.items() for it in mine), len(mine)
 
 

@@ -642,5 +642,6 @@ def test_killed_at_random(tmp_path):
             kills += 1
         out = ended(run, 600)[0]
         room.decide()
-    assert [room.cards_of(row)[0] for row in range(1, CARDS + 1)] == [1] * CARDS
+    held = room.held()
+    assert [room.cards_of(row, held)[0] for row in range(1, CARDS + 1)] == [1] * CARDS
     assert kills == KILLS

@@ -1,7 +1,7 @@
 //! Tests a card of an application of your own, by each way to its line. Answers are by ISO/IEC
 //! 7816-3 and 7816-4 and the rules of the card.
 
-use galliumtoad::{Application, CardT1, Command, Edc, Error, OwnCard, Response, Status, Stop};
+use galliumtoad::{Application, CardT1, Command, Edc, Error, OwnCard, Response, Status};
 use galliumtoad::{T1Limits, Turn, BLOCK_LIMIT, T1};
 use std::cell::{Cell, RefCell};
 use std::panic::{catch_unwind, set_hook, take_hook, AssertUnwindSafe};
@@ -117,13 +117,14 @@ fn rows(mut by: impl FnMut(&[u8]) -> (Vec<u8>, Vec<Step>), rows: &[Row<'_>]) {
     }
 }
 
-/// What the crate passes between the card and its application, by one TPDU after another. The rules
-/// are proved.
-fn at_t0(by: impl FnMut(&[u8]) -> (Vec<u8>, Vec<Step>)) {
+/// What the crate passes between the card and its application. The rules are proved.
+#[test]
+fn by_characters() {
+    let mut card = own();
     let [read, select] = [[0x00, 0xB0, 0x00, 0x05], [0x00, 0xA4, 0x00, 0x10]];
     let (none, selected) = ([0x00, 0x1A, 0x12, 0x34], done(select, b"ABC", 0));
     rows(
-        by,
+        |tpdu| (talked(&mut card, tpdu), steps(&card)),
         &[
             (b"\x00\xB0\x00\x05\x04", 0, 4, 0x6101, done(read, b"", 4)),
             // the response is kept, and the application is not asked again
@@ -135,36 +136,36 @@ fn at_t0(by: impl FnMut(&[u8]) -> (Vec<u8>, Vec<Step>)) {
     );
 }
 
-/// Passes a TPDU by characters, as a terminal at T=0 does. `sends` hands out the card's next ones.
-fn talk(card: &mut Own, tpdu: &[u8], mut sends: impl FnMut(&mut Own) -> Option<u8>) -> Vec<u8> {
+/// Passes a TPDU by characters, as a terminal at T=0 does.
+fn talked(card: &mut Own, tpdu: &[u8]) -> Vec<u8> {
     let mut data = Vec::new();
     let mut header = tpdu.to_vec();
     header.resize(header.len().max(5), 0);
     let (head, mut left) = header.split_at(5);
-    assert_eq!(sends(card), None);
+    assert_eq!(one(card), None);
     assert_eq!(card.receive_bytes(head), Ok(()));
     let mut asked = match head[4] {
         0 => 256,
         p3 => p3.into(),
     };
     loop {
-        let byte = sends(card).expect("a procedure byte");
-        let one = match byte {
+        let byte = one(card).expect("a procedure byte");
+        let is_one = match byte {
             0x60 => continue,
             it if it == head[1] => false,
             it if it == head[1] ^ 0xFF => true,
             sw1 => {
-                data.extend([sw1, sends(card).expect("SW2")]);
-                assert_eq!(sends(card), None);
+                data.extend([sw1, one(card).expect("SW2")]);
+                assert_eq!(one(card), None);
                 return data;
             }
         };
         if left.is_empty() {
-            let count = if one { 1 } else { asked };
-            data.extend((0..count).map(|_| sends(card).expect("a byte")));
+            let count = if is_one { 1 } else { asked };
+            data.extend((0..count).map(|_| one(card).expect("a byte")));
             asked -= count;
         } else {
-            let (front, rest) = left.split_at(if one { 1 } else { left.len() });
+            let (front, rest) = left.split_at(if is_one { 1 } else { left.len() });
             assert_eq!(card.receive_bytes(front), Ok(()));
             left = rest;
         }
@@ -179,40 +180,6 @@ fn one(card: &mut Own) -> Option<u8> {
             None
         }
     }
-}
-
-fn talked(card: &mut Own, tpdu: &[u8]) -> Vec<u8> {
-    talk(card, tpdu, one)
-}
-
-#[test]
-fn by_characters() {
-    let mut card = own();
-    at_t0(|tpdu| (talk(&mut card, tpdu, one), steps(&card)));
-}
-
-#[test]
-fn by_buffers() {
-    for size in [1, 2, 3, 7, 300] {
-        let (mut card, mut waits) = (own(), Vec::new());
-        let mut sends = |card: &mut Own| {
-            if waits.is_empty() {
-                let mut room = [0xEE; 300];
-                let sent = card.send_bytes(&mut room[..size]).expect("a card");
-                assert!(room[sent.count..].iter().all(|it| *it == 0xEE));
-                assert_eq!(sent.stop == Stop::Full, sent.count == size);
-                waits.extend(room[..sent.count].iter().rev());
-            }
-            waits.pop()
-        };
-        at_t0(|tpdu| (talk(&mut card, tpdu, &mut sends), steps(&card)));
-    }
-}
-
-#[test]
-fn by_tpdus() {
-    let mut card = own();
-    at_t0(|tpdu| (card.tpdu(tpdu).expect("a TPDU"), steps(&card)));
 }
 
 /// By whole commands a command settles at once.
@@ -271,29 +238,6 @@ fn at_t1() {
     let mut card = card.into_card().expect("a card");
     assert_eq!(steps(&card), [Reset]);
     assert_eq!(talked(&mut card, b"\x00\xC0\x00\x00\x01"), b"\x69\x85");
-}
-
-/// A panic of the application at T=1 resets the card, which begins T=1 again with `reset`.
-#[test]
-fn a_panic_at_t1() {
-    let mut card = CardT1::new(own()).expect("a card");
-    let mut terminal = T1::new(Edc::Lrc, 32, T1Limits::default()).expect("memory");
-    let read = b"\x00\xB0\x00\x05\x00";
-    for fails in [Fails::Header, Fails::Command, Fails::Settling] {
-        card.card().application().fails.set(fails);
-        let _ = steps(card.card());
-        let talks = AssertUnwindSafe(|| over_t1(&mut card, &mut terminal, read));
-        catch_unwind(talks).expect_err("a panic");
-        assert_eq!(steps(card.card()).last(), Some(&Reset));
-        card.card().application().fails.set(Fails::Nowhere);
-        assert_eq!(card.missed(), Err(Error::State));
-        assert_eq!(card.reset(), Ok(()));
-        assert_eq!(terminal.reset(), Ok(()));
-        let _ = steps(card.card());
-        let answer = over_t1(&mut card, &mut terminal, read);
-        assert_eq!(answer, [&bytes(5)[..], b"\x90\x00"].concat());
-        assert_eq!(steps(card.card()), done([0, 0xB0, 0, 5], b"", 256));
-    }
 }
 
 /// Both ends would deadlock: the card is reset, and its application once.
@@ -358,7 +302,7 @@ fn settling() {
 fn what_no_application_answers() {
     interrupted(b"\x00\x5A\x61\x00\x05", |_| Some(Error::Argument));
     interrupted(b"\x00\xB0\x10\x01\x05", |_| Some(Error::Argument));
-    let answer = talk(&mut own(), b"\x00\x5A\x9F\xFF\x05", one);
+    let answer = talked(&mut own(), b"\x00\x5A\x9F\xFF\x05");
     assert_eq!(answer, [0x9F, 0xFF]);
 }
 
@@ -409,32 +353,10 @@ fn interrupted(command: &[u8], prepare: impl Fn(&Probe) -> Option<Error>) {
         let fault = prepare(card.application());
         let ended = catch_unwind(AssertUnwindSafe(|| call(&mut card, command)));
         assert_eq!(ended.ok(), fault.map(Err));
-        card.application().fails.set(Fails::Nowhere);
+        card.application_mut().fails = Fails::Nowhere.into();
         assert_eq!(steps(&card).iter().filter(|it| **it == Reset).count(), 1);
         assert_eq!(talked(&mut card, b"\x00\xC0\x00\x00\x02"), b"\x69\x85");
         assert_eq!(talked(&mut card, update), b"\x90\x00");
         assert_eq!(steps(&card), fine());
     }
-}
-
-/// `settle` and `reset` do nothing by default.
-#[test]
-fn an_application_needs_two_functions() {
-    struct Two(u8);
-    impl Application for Two {
-        fn takes_data(&self, _: [u8; 4]) -> bool {
-            true
-        }
-        fn carry_out(&mut self, command: Command<'_>, response: &mut Response) -> Status {
-            self.0 += command.data.len() as u8;
-            response.extend(&[self.0]);
-            Status(0x9000)
-        }
-    }
-    let mut card = OwnCard::new(Two(3)).expect("memory");
-    card.application_mut().0 += 1;
-    assert_eq!(card.tpdu(b"\x00\x10\x00\x00\x02AB"), Ok(vec![0x61, 0x01]));
-    assert_eq!(card.application().0, 6);
-    card.reset().expect("a card");
-    assert_eq!(card.application().0, 6);
 }

@@ -3,12 +3,7 @@
  *
  * - `>` and a block that the card sends: PCB and field
  * - `<` and a block that it gets; `#` with a wrong LRC; `-` without its end
- * - `~`, nothing comes; `?`, the parity is wrong
- *
- * and of a card of one's own
- *
- * - `h`, it asks whether data come, and gets the answer 0 or 1; `c` and a command that waits
- * - `r` and the response that its application gives; `w` and how much more time it asks for. */
+ * - `~`, nothing comes; `?`, the parity is wrong. */
 #include "block.h"
 #include "check.h"
 
@@ -30,24 +25,6 @@ static const char *const DIALOGUES[] = {
     "<00 >006700 <4000A404 >406700 <0000A40400030141 >006700 <4000CA5F20000000 >406700"
     " <0000600000 >006D00 <40009A000000 >406D00 <0000A4040000 >006700 <4000B0000000 >406D00",
     "<00" GET " >006985 <40" SELECT " >40" NAME " <00" GET " >005F20034A4F459000",
-};
-
-#define ASKS "<008010000000 h0 c80100000"
-#define VERIFY "0020000002"
-
-/* Of a card of one's own. */
-static const char *const OWN[] = {
-    /* Le bytes come, and the rest by GET RESPONSE; then data for the card, in two blocks */
-    "<008010000002 h0 c80100000 r4142439000 >0041426101 <4000C0000000 >40439000"
-    " <0000C0000000 >006985",
-    ASKS " r9000 >009000 <60" VERIFY " >80 <000102 h1 c002000000102 r63C2 >4063C2",
-    /* any block drops a command that waits, and so its direction and its response */
-    ASKS " #00 >81 " ASKS " r4142439000 <80 >82 " ASKS " ~ >82 " ASKS " ? >81 " ASKS " r9000"
-    " >009000 <80 >009000",
-    ASKS " w3 >C303 <80 >C303 <E304 >C303 <E303 h0 c80100000 r9000 >009000",
-    ASKS " w3 >C303 <C2 >E2 " ASKS " <C0 >E0 " ASKS " r9000 >009000",
-    /* what its application does not get */
-    "<00801000000141 h0 >006700 <400020000002 h1 >406700 <0000600000 >006D00 <4080 >406700",
 };
 
 static gt_card card;
@@ -94,41 +71,8 @@ static void comes(char kind, const char *digits) {
     if (kind != '-') hears(block + 3, n - 2, GT_SENDS, n - 3);
 }
 
-/* The card waits for its application, with this command. */
-static void waits(const char *digits) {
-    gt_command command;
-    const size_t n = block_of_digits(digits) - 4;
-    uint8_t want[GT_BLOCK_LIMIT];
-    size_t count = 0;
-    want[0] = block[1];
-    memcpy(want + 1, block + 3, n);
-    CHECK(gt_card_t1_send_bytes(&card, block, sizeof block, &count), GT_COMMAND);
-    CHECK(gt_card_command(&card, &command), GT_OK);
-    CHECK_BYTES(&command, want, 4);
-    CHECK(command.size, n - 3);
-    CHECK_BYTES(command.data, want + 4, n - 3);
-}
-
-static void responds(const char *digits) {
-    const size_t n = block_of_digits(digits) - 4;
-    uint8_t bytes[GT_BLOCK_LIMIT];
-    bytes[0] = block[1];
-    memcpy(bytes + 1, block + 3, n);
-    CHECK(gt_card_respond(&card, bytes, n - 1, (uint16_t)(bytes[n - 1] << 8 | bytes[n])), GT_OK);
-}
-
-static void asks_direction(int to_card) {
-    size_t n = 0;
-    CHECK(gt_card_t1_send_bytes(&card, block, sizeof block, &n), GT_HEADER);
-    CHECK(gt_card_direction(&card, to_card), GT_OK);
-}
-
 static void happens(const char *word) {
     switch (*word) {
-    case 'h': asks_direction(word[1] == '1'); break;
-    case 'c': waits(word + 1); break;
-    case 'r': responds(word + 1); break;
-    case 'w': CHECK(gt_card_more_time(&card, (uint8_t)(word[1] - '0')), GT_OK); break;
     case '>': sends(word + 1); break;
     case '~': CHECK(gt_card_t1_missed(&card), GT_SENDS); break;
     case '?': CHECK(gt_card_t1_damaged(&card), GT_SENDS); break;
@@ -136,17 +80,14 @@ static void happens(const char *word) {
     }
 }
 
-static void build(void) {
+static void dialogue(const char *words) {
     static const uint8_t aid[] = { 0xA0, 0x00, 0x00, 0x00, 0x03, 0x10, 0x10 };
+    char text[600], *word;
+    const int before = failed;
     CHECK(gt_card_new(&card), GT_OK);
     CHECK(gt_card_app(&card, aid, sizeof aid), GT_OK);
     CHECK(gt_card_object(&card, 0x5F20, (const uint8_t *)"JOE", 3, 0), GT_OK);
     CHECK(gt_card_finish(&card), GT_OK);
-}
-
-static void dialogue(const char *words) {
-    char text[600], *word;
-    const int before = failed;
     CHECK(gt_card_t1_begin(&card), GT_OK);
     snprintf(text, sizeof text, "<C1FE >E1FE %s", words);
     for (word = strtok(text, " "); word; word = strtok(NULL, " ")) happens(word);
@@ -156,13 +97,6 @@ static void dialogue(const char *words) {
 
 int main(void) {
     size_t i;
-    for (i = 0; i < sizeof DIALOGUES / sizeof *DIALOGUES; i++) {
-        build();
-        dialogue(DIALOGUES[i]);
-    }
-    for (i = 0; i < sizeof OWN / sizeof *OWN; i++) {
-        CHECK(gt_card_own(&card, NULL), GT_OK);
-        dialogue(OWN[i]);
-    }
+    for (i = 0; i < sizeof DIALOGUES / sizeof *DIALOGUES; i++) dialogue(DIALOGUES[i]);
     return check_result("t1");
 }

@@ -63,7 +63,7 @@ def done(header, data=b"", le=0):
 
 
 # What a terminal sends by TPDUs, the card's answer, and the command that it carries out. The rules
-# are proved: here is what the package passes on.
+# are proved, and bindings/c tests them: here is what the package passes on.
 AT_T0 = [
     ("00B0000505", made(5) + b"\x90\x00", done("00b00005", le=5)),
     ("00B0000500", b"\x6c\x05", done("00b00005", le=256)),

@@ -2,7 +2,6 @@
 
 import os
 import platform
-import shutil
 import socket
 import subprocess
 import sys
@@ -11,6 +10,9 @@ from pathlib import Path
 import pytest
 from galliumtoad import simulate
 from room import SCRIPT, folder_of_programs
+from test_applications import CARDS, dialogue
+from test_reader import PRIVATE, missing, namespace
+from test_simulate_replay import CAPTURES, SIM
 from waiting import SECONDS, wait_until
 
 TESTS = Path(__file__).resolve().parent
@@ -52,31 +54,9 @@ print(state >> 16, time.monotonic() - begun)
 """
 
 
-# pcscd has its socket at a fixed place. In a private mount namespace that is a folder of the test.
-PRIVATE = ["sh", "-c", 'mkdir -p /run/pcscd && mount --bind "$0" /run/pcscd && exec "$@"']
-
-
 def lacks():
     """What is missing on this machine, or None."""
-    for name in ("pcscd", "unshare", "pkg-config", "make", "cc"):
-        if not shutil.which(name):
-            return f"there is no {name}"
-    if subprocess.run(["pkg-config", "--exists", "libpcsclite"]).returncode:
-        return "there is no libpcsclite with its headers"
-    if subprocess.run([sys.executable, "-c", "import smartcard"]).returncode:
-        return "there is no pyscard"
-    if not os.path.exists(VPCD):
-        return "there is no vpcd"
-    return None if namespace() else "a namespace of its own can't be had"
-
-
-def namespace():
-    """The words that run a program in a mount namespace, with or without the rights of root."""
-    for words in (["unshare", "-m"], ["unshare", "-rm"]):
-        tried = subprocess.run([*words, *PRIVATE, "/tmp", "true"], stderr=subprocess.DEVNULL)
-        if tried.returncode == 0:
-            return words
-    return None
+    return missing() or (None if os.path.exists(VPCD) else "there is no vpcd")
 
 
 pytestmark = pytest.mark.skipif(lacks() is not None, reason=str(lacks()))
@@ -180,6 +160,14 @@ PULLED = [(1, True, ""), (2, True, ""), (3, False, "untouched"), (3, True, ONE),
           WHOLE, (8, True, "done"), (9, True, "done"), WHOLE]
 
 
+@pytest.mark.parametrize("name", CARDS)
+def test_an_example_in_a_reader(desk, name):
+    """It gives the answers of the other ways."""
+    desk.card("--application", name)
+    commands, answers = dialogue(name)
+    assert desk.ask(*commands)[0] == [it.lower() for it in answers]
+
+
 def test_a_payment_card_is_read_and_explained(desk):
     """By gt_pcsc; the trace of the card names what went over."""
     subprocess.run(["make", "-s", f"BUILD={desk.path}", desk.path / "gt_pcsc"], cwd=C, check=True)
@@ -198,6 +186,17 @@ def test_a_payment_card_is_read_and_explained(desk):
     for text in ("GET PROCESSING OPTIONS, class 80", "READ RECORD 1 of file 1", '"TEST"',
                  '"TOAD/GALLIUM"', "6A82 file or application not found"):
         assert (text in explained) == (text[0] != "6"), explained
+
+
+def test_a_capture_in_a_reader(desk):
+    """The SIM of a phone is a card at PC/SC, and a strict one ends at a departure."""
+    card = desk.card("--replay", CAPTURES / "sim_tracer.trace", "--strict")
+    words = [it.split() for it in SIM]
+    assert desk.ask(*(it for it, _ in words))[0] == [it.lower() for _, it in words]
+    assert desk.ask("A0B000000A", is_new=False)[0] == []
+    assert card.wait(SECONDS) == 2
+    said = (desk.path / "trace").read_text().splitlines()[-1]
+    assert said.endswith("sim_tracer.trace: line 4 has A0A400003F00, not A0B00000")
 
 
 def test_a_batch_whose_cards_are_pulled(desk):

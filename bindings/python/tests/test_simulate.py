@@ -388,6 +388,8 @@ def test_files_and_ports_that_are_missing(tmp_path, capsys):
     assert main(["--table", table, "--pty", "--faults", "/none"]) == 2
     assert main(["--table", table, "--tty", "/none"]) == 1
     assert capsys.readouterr().err.count("No such file") == 2
+    assert main(["--table", table, "--tty", "/dev/null"]) == 1
+    assert capsys.readouterr().err == "[Errno 25] Inappropriate ioctl for device: '/dev/null'\n"
     ports = ("localhost", "localhost:", "localhost:vpcd", "localhost:\u00b2", "localhost:65536")
     for address in (*ports, f"localhost:{2**64}", "localhost:-1", "a" * 70 + ":1"):
         assert main(["--table", table, "--vpcd", address]) == 2

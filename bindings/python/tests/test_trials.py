@@ -38,7 +38,7 @@ def run(tmp_path, only, *ways, limit=20):
 def test_a_good_terminal(tmp_path, only, verdict):
     found, status, page = run(tmp_path, only)
     assert list(found.values()) == [verdict] and status == 0
-    assert f"<td>{verdict}</td>" in page and "ISO/IEC" in page or "EMV" in page
+    assert f"<td>{verdict}<td>" in page and "ISO/IEC" in page or "EMV" in page
 
 
 @pytest.mark.parametrize(

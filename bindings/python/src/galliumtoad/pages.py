@@ -37,14 +37,18 @@ def begin(title: str) -> str:
             f"<title>{title}</title>\n<style>\n{STYLE}</style><h1>{title}</h1>\n")
 
 
-def table(head: Sequence[str], rows: Iterable[tuple[str, Sequence[str]]]) -> str:
-    """A table of texts, in which each row has a class.
+def table(head: Sequence[str], rows: Iterable[tuple[str, Sequence[str]]],
+          has_ends: bool = True) -> str:
+    """A table of texts, in which each row has a class. HTML needs no ends of cells and rows.
 
     >>> table(["a"], [("wrong", ["<"])])
     '<table><tr><th>a</th></tr>\\n<tr class="wrong"><td>&lt;</td></tr>\\n</table>'
+    >>> table(["a"], [("wrong", ["<"])], has_ends=False)
+    '<table><tr><th>a\\n<tr class="wrong"><td>&lt;\\n</table>'
     """
-    lines = [f"<tr>{''.join(f'<th>{it}</th>' for it in head)}</tr>"]
+    th, td, tr = ("</th>", "</td>", "</tr>") if has_ends else ("", "", "")
+    lines = [f"<tr>{''.join(f'<th>{it}{th}' for it in head)}{tr}\n"]
     for kind, cells in rows:
-        made = "".join(f"<td>{html.escape(it)}</td>" for it in cells)
-        lines.append(f'<tr class="{kind}">{made}</tr>')
-    return "<table>" + "".join(f"{it}\n" for it in lines) + "</table>"
+        made = "".join(f"<td>{html.escape(it)}{td}" for it in cells)
+        lines.append(f'<tr class="{kind}">{made}{tr}\n')
+    return f"<table>{''.join(lines)}</table>"

@@ -373,7 +373,7 @@ def main(words: Optional[list[str]] = None) -> int:
             else:
                 serve_tty(it, given.tty, int(given.baud), given.reset)
     except (OSError, termios.error) as why:
-        print(why, file=sys.stderr)
+        print(why if isinstance(why, OSError) else OSError(*why.args, given.tty), file=sys.stderr)
         return 1
     return 0
 

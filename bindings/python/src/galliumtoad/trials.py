@@ -132,7 +132,7 @@ def as_html(results: list[Trial]) -> str:
     """The results as a page."""
     rows = [(it.verdict * (not it.is_unseen), [
         it.name, it.faults, it.verdict + "*" * it.is_unseen, it.said, it.says]) for it in results]
-    return f"{begin('Trials')}{table(HEAD, rows)}<p>{STAR}</html>\n"
+    return f"{begin('Trials')}{table(HEAD, rows, has_ends=False)}<p>{STAR}</html>\n"
 
 
 def parser() -> argparse.ArgumentParser:

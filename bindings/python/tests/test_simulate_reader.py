@@ -221,6 +221,7 @@ def test_a_batch_whose_cards_are_pulled(desk):
                               capture_output=True, timeout=SECONDS)
         return done.stdout
 
+    await_("insert a card for row 1\n")  # a card that lies in the reader would have to be removed
     for row, (at, is_carried_out, word) in enumerate(PULLED, 1):
         table.write_text(f"app {AID}\nobject 9F7F {row:02X}\natr 3B800181\n")
         faults.write_text(f"command {at}, power off\n" * (at > 0)

@@ -188,8 +188,8 @@ def test_a_strict_card(replay, tmp_path):
      ([one(1, "00CA0050", "", "", "")], "no command with an answer"),
      ([one(5, "00B00000", "", "AA" * 3841, "9000")], "line 5: a response of more than 3840 bytes")],
 )
-def test_a_capture_that_can_not_be_replayed(replay, objects, why):
-    with pytest.raises(Mistake, match=why):
+def test_a_capture_that_can_not_be_replayed(replay, tmp_path, objects, why):
+    with pytest.raises(Mistake, match=f"^{tmp_path}/capture: {why}"):
         replay(*objects)
 
 
@@ -224,6 +224,10 @@ def test_lines_that_another_program_wrote(tmp_path, line):
 def test_digits_of_either_case(replay):
     card = replay(one(1, "00a4040002", "abcd", "ef", "9f1c"))
     assert asked(card, "00A4040002ABCD00") == ["EF9F1C"]
+
+
+def test_any_name_may_be_the_first_of_a_line(replay):
+    assert asked(replay({"line": 1, "type": "reset"}, *COUNTER), "8010000001") == ["019000"]
 
 
 def test_a_masked_note_does_not_matter(replay):

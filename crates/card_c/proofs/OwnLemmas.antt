@@ -6,11 +6,8 @@ use Rattle.t0_core.specs.CardSide.{EndOf, Stage}
 use Rattle.t0_core.specs.Meaning.{Prepared}
 use Rattle.t0_core.specs.Plan.{Cursor, plan_kept}
 use Rattle.object_card.specs.CardView.{CardView}
-use Rattle.command_card.specs.declared.ready.Ready.{Ready}
-use Rattle.command_card.specs.declared.ready.Ready.TheVariants as ready
 use Rattle.command_card.specs.Given.{GivenState}
 use Rattle.command_card.specs.State.{CardState}
-use Rattle.command_card.specs.Wanted.{forgotten_by}
 use Rattle.card_c.specs.declared.card_side.CardSide.{CardSide}
 use Rattle.card_c.specs.declared.card_side.CardSide.TheVariants.{Standing, AtT1, Own, OwnAtT1}
 use Rattle.card_c.specs.BufferCalls.{CardReceives, CardSends}
@@ -90,17 +87,6 @@ own_handed plans s t b is = (
 pub own_driven : (plans : Cursor) (s t : EndOf OwnCard) (b : ℕ) → IsHandedOut own_card s b t
     → OwnHandsOutOne (s, plans) b (t, plans)
 own_driven plans s t b is = (inr is, own_handed plans s t b is)
-
--- what `forget` drops is dropped once, and nothing else changes
-pub forgotten_is : (c : OwnCard) → (forgotten_by (forgotten_by c) ≡ forgotten_by c)
-    × (own_card.prepared (forgotten_by c) ≡ own_card.prepared c)
-forgotten_is c = at c.ready where
-  at : (r : Ready)
-      → (forgotten_by (forgotten_by (record c { ready = r })) ≡ forgotten_by (record c { ready = r }))
-      × (own_card.prepared (forgotten_by (record c { ready = r }))
-      ≡ own_card.prepared (record c { ready = r }))
-  at ready.Nothing = (refl, refl)
-  at other = (refl, refl)
 
 -- what leads to an end leads to another that stands alike
 pub same_end : (old new : EndOf OwnCard) → own_card.standing new.card ≡ own_card.standing old.card

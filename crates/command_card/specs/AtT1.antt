@@ -1,5 +1,4 @@
--- What a whole command does to the application (T=1; ISO/IEC 7816-4, 5.1; the refusals are
--- profile).
+-- What a whole command does to the application (ISO/IEC 7816-4, 5.1; the refusals are profile).
 use Rattle.std.specs.Prelude.{◌≡◌, ℕ, List, [], ◌∷◌, ◌++◌, take, drop, Option, Some, None, Bool, true, false, unwrap_or}
 use Rattle.apdu_core.specs.declared.header.Header.{Header}
 use Rattle.apdu_core.specs.CommandBytes.{Command, IsCommand, HasForm, HasInvalidIns, command_bytes}

@@ -4,6 +4,7 @@ pub mod Meaning
 pub mod View
 pub mod Given
 pub mod Wanted
+pub mod WantedLaws
 pub mod AtT1
 pub mod Told
 pub mod Alike

@@ -137,8 +137,7 @@ RespondsAs old c response new = (app : GivenState)
     × Responds takes_data Gives old c response (record { app = app; left = new.left })
     × (new.app ≡ without_answer app)
 
--- The same at T=1. Nothing is carried out before the direction and the response that it needs are
--- there.
+-- The same at T=1. Nothing is carried out before the direction and the response are there.
 abbrev pub RespondsAtT1 : CardState GivenState → Command → List ℕ → CardState GivenState → Type 0
 RespondsAtT1 old c response new =
     (wanted_for old.app c ≡ wanted.Nothing) × RespondsAs old c response new

@@ -2,8 +2,9 @@ use Rattle.std.proofs.Common.{◌∙◌, ◌++◌, ◌∷◌, [], ap, refl, subs
 use Rattle.t0_core.specs.CardHistory.{Leads, LeadsUnder}
 use Rattle.t0_core.specs.History.{Reset}
 use Rattle.command_card.specs.Wanted.{forgotten_by}
+use Rattle.command_card.specs.WantedLaws.{forgets_once}
 use Rattle.card_c.specs.OwnCalls.{OwnLed, own_card}
-use Rattle.card_c.proofs.OwnLemmas.{forgotten_is, same_end}
+use Rattle.card_c.proofs.OwnLemmas.{same_end}
 use Rattle.card_c.proofs.own.reset_one.Goals as goal
 
 pub returns : goal.returns
@@ -11,7 +12,7 @@ returns c =
     let mid = c.reset.new.self in
     let was = c.drop_whole.ensures.end in
     let is = c.forget.ensures.done in
-    let (again, prepared) = forgotten_is mid.card in
+    let (again, prepared) = forgets_once mid.card in
     let back = c.forget.ensures.stands ∙ c.reset.ensures.card
     ∙ ap (λ e. own_card.after_reset (own_card.standing e.card)) was in
     let led = same_end mid c.forget.new.end c.forget.ensures.stands

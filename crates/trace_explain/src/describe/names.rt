@@ -176,9 +176,9 @@ impl Names {
         None
     }
 
-    /// The name of a row.
-    pub fn name(&self, row: &TagRow) -> &str {
-        self.words(row.name)
+    /// The name of a row; empty without one.
+    pub fn name(&self, row: Option<&TagRow>) -> &str {
+        row.map_or("", |row| self.words(row.name))
     }
 
     /// Words of a row.

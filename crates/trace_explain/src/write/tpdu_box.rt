@@ -1,6 +1,6 @@
 //! The box of a TPDU, row by row.
 ghost use Rattle.std.specs.Prelude.{◌≡◌, false};
-ghost use Rattle.trace_explain.specs.Boxes.{HasAsker, IsAnswer, IsBar, IsBeside, IsData, IsDataRow, IsFields, IsStatus, IsTitle, IsTogether, PutsBeside, PutsBox, PutsDataRow, PutsWhole, ShowsData, hidden_line, no_data, side_of, status_side};
+ghost use Rattle.trace_explain.specs.Boxes.{HasAsker, IsAnswer, IsBeside, IsData, IsDataRow, IsFields, IsStatus, IsTitle, IsTogether, PutsBeside, PutsBox, PutsDataRow, PutsWhole, ShowsData, hidden_line, no_data, side_of, status_side};
 ghost use Rattle.trace_explain.specs.Sheets.{Adds, Puts, PutsText};
 ghost use Rattle.trace_explain.specs.Reports.{report_of};
 
@@ -52,7 +52,8 @@ pub fn tell_box(
     let status = tpdu.status.as_slice();
     tell_title(&outline, name_of(tpdu), status, links, tpdu.line, output);
     tell_beside(tpdu, links, mask, output);
-    tell_bar(clock, output);
+    let (all, card) = clock.took_us();
+    push_bar(&mut output.sheet, all, card);
     push_line(&mut output.sheet, tpdu.line);
     tell_fields(tpdu, &outline, links, clock, mask, output);
     output.page.push_file();
@@ -118,14 +119,6 @@ fn tell_value(shown: Shown, bytes: &[u8], mask: &Mask, output: &mut Output)
     push_shown(&mut output.page, shown, true, bytes, mask);
     push_beside(&mut output.sheet, &output.page.lines);
     output.page.lines.clear();
-}
-
-/// Adds a bar for the time to the title on a page.
-fn tell_bar(clock: &Clock, output: &mut Output)
-    ensures { Puts IsBar output.old.sheet output.new.sheet }
-{
-    let (all, card) = clock.took_us();
-    push_bar(&mut output.sheet, all, card);
 }
 
 /// Adds the fields that only JSON has.

@@ -52,10 +52,11 @@ static FORMATS: [(&str, Format); 13] = [
     ("sfi", Format::ShortFile),
 ];
 
-/// The format with this name. `=SET` is a set of bits.
+/// The format with this name. `=SET` is a set of bits, whose name is printable.
 pub fn format_of(name: &str) -> Option<Format> {
     if let Some(set) = name.strip_prefix('=') {
-        return Some(Format::Bits(joined(0, set.as_bytes())));
+        let set = set.as_bytes();
+        return are_printable(set).then_some(Format::Bits(joined(0, set)));
     }
     for (other, format) in &FORMATS {
         if *other == name {

@@ -14,10 +14,10 @@ use Rattle.trace_explain.specs.declared.follow.links.Whole.TheVariants as whole
 use Rattle.trace_explain.specs.declared.describe.mask.Mask.{Mask}
 use Rattle.trace_explain.specs.declared.describe.mask.Origin.{Origin}
 use Rattle.trace_explain.specs.declared.describe.mask.Shown.{Shown}
-use Rattle.trace_explain.specs.declared.describe.mask.Shown.TheVariants.{All, Objects, Nothing}
+use Rattle.trace_explain.specs.declared.describe.mask.Shown.TheVariants.{All}
 use Rattle.trace_explain.specs.declared.write.sheet.Sheet.{Sheet}
 use Rattle.trace_explain.specs.declared.write.fields.Fields.{Fields}
-use Rattle.trace_explain.specs.Fields.{IsField, json_fields}
+use Rattle.trace_explain.specs.Fields.{IsField, json_fields, shows_tree}
 use Rattle.trace_explain.specs.Noted.{are_status}
 use Rattle.trace_explain.specs.Secrets.{Shows}
 use Rattle.trace_explain.specs.Sheets.{Adds, IsRow, Puts}
@@ -41,22 +41,17 @@ abbrev pub Instead : (List ℕ → Type 0) → List ℕ → List ℕ → Type 0
 Instead Is [] text = Is text
 Instead Is (b ∷ tree) text = text ≡ b ∷ tree
 
--- the lines of digits, each after LF
-abbrev pub IsDigits : List ℕ → List ℕ → Type 0
-IsDigits bytes text =
+-- data as lines of digits, each after LF, or a line in place of them if some are hidden
+abbrev pub IsPlain : Shown → List ℕ → List ℕ → Type 0
+IsPlain All bytes text =
     (lines : List (List ℕ)) × AreDigits bytes lines × (text ≡ lines_text lines)
-
--- the line in place of hidden data
-abbrev pub hidden_line : List ℕ
-hidden_line = codes "\n" ++ hidden
+IsPlain shown bytes text = text ≡ codes "\n" ++ hidden
 
 -- the lines of data, as far as they are shown
 abbrev pub ShowsData : Shown → List (List ℕ) → Bool → List ℕ → List ℕ → Type 0
-ShowsData All tags may bytes text =
-    (tree : List ℕ) × IsTree false tags may bytes tree × Instead (IsDigits bytes) tree text
-ShowsData Objects tags may bytes text = (tree : List ℕ) × IsTree false tags may bytes tree
-    × Instead (λ all. all ≡ hidden_line) tree text
-ShowsData Nothing tags may bytes text = text ≡ hidden_line
+ShowsData shown tags may bytes text = (tree : List ℕ)
+    × IsTree false tags (shows_tree shown may) bytes tree
+    × Instead (IsPlain shown bytes) tree text
 
 -- The mask shows data by a command: that of their TPDU, or under GET RESPONSE that of the response.
 pub record IsShown (mask : Mask) (is_loose : Bool) (way : Direction) (header moved : List ℕ)

@@ -123,7 +123,7 @@ fn push_value(sheet: &mut Sheet, shown: Shown, bytes: &[u8])
 }
 
 /// Whether data may be objects that are shown.
-fn shows_tree(shown: Shown, may_be_objects: bool) -> bool
+pub fn shows_tree(shown: Shown, may_be_objects: bool) -> bool
     ensures { result ≡ shows_tree shown may_be_objects }
 {
     match shown {

@@ -1,6 +1,6 @@
 //! The box of a TPDU, row by row.
 ghost use Rattle.std.specs.Prelude.{◌≡◌, false};
-ghost use Rattle.trace_explain.specs.Boxes.{HasAsker, IsAnswer, IsBeside, IsData, IsDataRow, IsFields, IsStatus, IsTitle, IsTogether, PutsBeside, PutsBox, PutsDataRow, PutsWhole, ShowsData, hidden_line, no_data, side_of, status_side};
+ghost use Rattle.trace_explain.specs.Boxes.{HasAsker, IsAnswer, IsBeside, IsData, IsDataRow, IsFields, IsPlain, IsStatus, IsTitle, IsTogether, PutsBeside, PutsBox, PutsDataRow, PutsWhole, ShowsData, no_data, side_of, status_side};
 ghost use Rattle.trace_explain.specs.Sheets.{Adds, Puts, PutsText};
 ghost use Rattle.trace_explain.specs.Reports.{report_of};
 
@@ -15,7 +15,7 @@ use crate::follow::story::{Story, header_of};
 use crate::follow::tpdu::{Tpdu, are_status};
 use crate::instructions::may_have_objects;
 use crate::write::ascii::push_digits;
-use crate::write::fields::{Fields, push_data, push_fields};
+use crate::write::fields::{Fields, push_data, push_fields, shows_tree};
 use crate::write::html::{push_bar, push_beside, push_box_end};
 use crate::write::layout::{Kind, Medium, Side};
 use crate::write::output::Output;
@@ -309,27 +309,22 @@ fn push_shown(page: &mut Page, shown: Shown, may_be_objects: bool, bytes: &[u8],
     ensures { PutsText (ShowsData shown mask.now.tags.items may_be_objects bytes.now)
         page.old.lines page.new.lines }
 {
-    match shown {
-        Shown::Nothing => push_hidden(&mut page.lines),
-        _
-            if push_tree(
-                &mut page.lines,
-                false,
-                may_be_objects,
-                bytes,
-                mask,
-                &mut page.text,
-            ) => {}
-        Shown::Objects => push_hidden(&mut page.lines),
-        Shown::All => push_digits(&mut page.lines, bytes),
+    let (lines, words) = (&mut page.lines, &mut page.text);
+    let may_be_objects = shows_tree(shown, may_be_objects);
+    let some = push_tree(lines, false, may_be_objects, bytes, mask, words);
+    if !some {
+        push_plain(&mut page.lines, shown, bytes);
     }
 }
 
-/// Adds the line for hidden data.
-fn push_hidden(lines: &mut Sheet)
-    ensures { Adds lines.old hidden_line lines.new }
+/// Adds data as lines of digits, or a line in place of them if some are hidden.
+fn push_plain(lines: &mut Sheet, shown: Shown, bytes: &[u8])
+    ensures { PutsText (IsPlain shown bytes.now) lines.old lines.new }
 {
-    lines.push_str("\n**");
+    match shown {
+        Shown::All => push_digits(lines, bytes),
+        _ => lines.push_str("\n**"),
+    }
 }
 
 /// Adds the row of the data that the card returned beside those of the terminal, if any. In JSON

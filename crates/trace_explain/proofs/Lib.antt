@@ -5,6 +5,5 @@ pub mod LogLemmas
 mod DigitLemmas
 pub mod SheetLemmas
 mod TreeLemmas
-mod JsonTreeLemmas
 pub mod AccountLemmas
 pub mod CarriedLemmas

@@ -153,11 +153,6 @@ all_lines indent width in_text bytes rest first now so_far none =
     let (all, are_all, completes) = so_far [] (nil_from_length rest none) in
     (all, are_all, completed first now (lines_text all) completes)
 
--- lines, and then others
-pub lines_both : (xs ys : List (List ℕ)) {a b c : Sheet} → Adds a (lines_text xs) b
-    → Adds b (lines_text ys) c → Adds a (lines_text (xs ++ ys)) c
-lines_both xs ys h k = adds_as (sym (flat_map-append (λ line. 10 ∷ line) xs ys)) (adds_both h k)
-
 pub words_both : (m : Medium) (x y : List ℕ) → IsWords m x → IsWords m y → IsWords m (x ++ y)
 words_both m x y (xs, x_is) (ys, y_is) =
     let f : Words → List ℕ = λ w. piece_text m w.form w.text in (

@@ -1,5 +1,5 @@
 -- The box of a TPDU, part by part.
-use Rattle.std.specs.Prelude.{◌≡◌, ◌≢◌, ◌<◌, ℕ, List, [], ◌∷◌, ◌++◌, codes, length, get_or, Bool, true, ◌==◌, ◌&&◌, if◌then◌else◌, Option, Some, None, IfSome}
+use Rattle.std.specs.Prelude.{◌≡◌, ◌≢◌, ◌<◌, ℕ, List, [], ◌∷◌, ◌++◌, codes, length, get_or, Bool, true, false, ◌==◌, ◌&&◌, if◌then◌else◌, Option, Some, None, IfSome}
 use Rattle.std.specs.Fmt.{decimal}
 use Rattle.t0_core.specs.declared.direction.Direction.{Direction}
 use Rattle.t0_core.specs.declared.direction.Direction.TheVariants.{ToCard, FromCard}
@@ -14,11 +14,10 @@ use Rattle.trace_explain.specs.declared.follow.links.Whole.TheVariants as whole
 use Rattle.trace_explain.specs.declared.describe.mask.Mask.{Mask}
 use Rattle.trace_explain.specs.declared.describe.mask.Origin.{Origin}
 use Rattle.trace_explain.specs.declared.describe.mask.Shown.{Shown}
-use Rattle.trace_explain.specs.declared.describe.mask.Shown.TheVariants.{All, Objects, Nothing}
+use Rattle.trace_explain.specs.declared.describe.mask.Shown.TheVariants.{All}
 use Rattle.trace_explain.specs.declared.write.sheet.Sheet.{Sheet}
 use Rattle.trace_explain.specs.declared.write.fields.Fields.{Fields}
-use Rattle.trace_explain.specs.Fields.{fields_text}
-use Rattle.trace_explain.specs.JsonTrees.{IsField}
+use Rattle.trace_explain.specs.Fields.{IsField, json_fields, shows_tree}
 use Rattle.trace_explain.specs.Noted.{are_status}
 use Rattle.trace_explain.specs.Secrets.{Shows}
 use Rattle.trace_explain.specs.Sheets.{Adds, IsRow, Puts}
@@ -37,18 +36,22 @@ abbrev pub status_side : List ℕ → List ℕ → Side
 status_side header status =
     if are_status status && (length header == 5) then side.Card else side.Nobody
 
--- a tree, or other lines if the tree is empty
-abbrev pub Instead : (List (List ℕ) → Type 0) → List (List ℕ) → List (List ℕ) → Type 0
-Instead Are [] lines = Are lines
-Instead Are (line ∷ tree) lines = lines ≡ line ∷ tree
+-- a tree, or another text if the tree is empty
+abbrev pub Instead : (List ℕ → Type 0) → List ℕ → List ℕ → Type 0
+Instead Is [] text = Is text
+Instead Is (b ∷ tree) text = text ≡ b ∷ tree
+
+-- data as lines of digits, each after LF, or a line in place of them if some are hidden
+abbrev pub IsPlain : Shown → List ℕ → List ℕ → Type 0
+IsPlain All bytes text =
+    (lines : List (List ℕ)) × AreDigits bytes lines × (text ≡ lines_text lines)
+IsPlain shown bytes text = text ≡ codes "\n" ++ hidden
 
 -- the lines of data, as far as they are shown
-abbrev pub ShowsData : Shown → List (List ℕ) → Bool → List ℕ → List (List ℕ) → Type 0
-ShowsData All tags may bytes lines =
-    (tree : List (List ℕ)) × IsTree tags may bytes tree × Instead (AreDigits bytes) tree lines
-ShowsData Objects tags may bytes lines = (tree : List (List ℕ)) × IsTree tags may bytes tree
-    × Instead (λ all. all ≡ hidden ∷ []) tree lines
-ShowsData Nothing tags may bytes lines = lines ≡ hidden ∷ []
+abbrev pub ShowsData : Shown → List (List ℕ) → Bool → List ℕ → List ℕ → Type 0
+ShowsData shown tags may bytes text = (tree : List ℕ)
+    × IsTree false tags (shows_tree shown may) bytes tree
+    × Instead (IsPlain shown bytes) tree text
 
 -- The mask shows data by a command: that of their TPDU, or under GET RESPONSE that of the response.
 pub record IsShown (mask : Mask) (is_loose : Bool) (way : Direction) (header moved : List ℕ)
@@ -69,9 +72,9 @@ HasAsker header links = get_or header 1 0 ≢ 0xC0 → IfSome links.asker (IsOfC
 abbrev pub IsDataRow
     : Shown → List (List ℕ) → Side → Bool → List ℕ → Medium → List ℕ → Type 0
 IsDataRow shown tags s may bytes Json text = IsField shown tags s may bytes text
-IsDataRow shown tags s may bytes m text = (lines : List (List ℕ))
+IsDataRow shown tags s may bytes m text = (lines : List ℕ)
     × ShowsData shown tags may bytes lines
-    × (text ≡ some_row m s (codes "data") (lines_text lines))
+    × (text ≡ some_row m s (codes "data") lines)
 
 -- the row of data of a TPDU, if it moved any, after a whole header
 abbrev pub IsData
@@ -85,9 +88,9 @@ IsData mask is_loose (Some way) header moved m text = length header ≡ 5 → (s
 -- the row of data was added
 abbrev pub PutsDataRow
     : Shown → List (List ℕ) → Side → Bool → List ℕ → Sheet → Sheet → Type 0
-PutsDataRow shown tags s may bytes old new = (lines : List (List ℕ))
+PutsDataRow shown tags s may bytes old new = (lines : List ℕ)
     × ShowsData shown tags may bytes lines
-    × Adds old (some_row old.layout.medium s (codes "data") (lines_text lines)) new
+    × Adds old (some_row old.layout.medium s (codes "data") lines) new
 
 -- in JSON an end without data has an empty field
 abbrev pub no_data : Medium → Option Direction → List ℕ
@@ -113,17 +116,16 @@ MayBe it m text = text ≢ [] → text ≡ it m
 
 -- data in the title, as far as they are shown, or nothing
 abbrev pub PutsBeside : Shown → List (List ℕ) → List ℕ → Sheet → Sheet → Type 0
-PutsBeside shown tags bytes old new = (lines : List (List ℕ))
-    × ShowsData shown tags true bytes lines
-    × Puts (MayBe (λ m. beside_text m (lines_text lines))) old new
+PutsBeside shown tags bytes old new = (lines : List ℕ)
+    × ShowsData shown tags true bytes lines × Puts (MayBe (λ m. beside_text m lines)) old new
 
 -- the card's data in the title, as the mask shows them, or nothing
 abbrev pub IsBeside
     : Mask → Bool → Option Direction → List ℕ → List ℕ → Medium → List ℕ → Type 0
 IsBeside mask is_loose way header moved m text = text ≢ [] → (way ≡ Some FromCard)
     × (shown : Shown) × IsShown mask is_loose FromCard header moved shown
-    × (lines : List (List ℕ)) × ShowsData shown mask.tags.items true moved lines
-    × (text ≡ beside_text m (lines_text lines))
+    × (lines : List ℕ) × ShowsData shown mask.tags.items true moved lines
+    × (text ≡ beside_text m lines)
 
 -- a bar for the time, with the share of the card, or nothing
 abbrev pub IsBar : Medium → List ℕ → Type 0
@@ -142,12 +144,12 @@ whole_words whole.None size = []
 whole_words (whole.Response n) size = size_words size n (codes " parts:")
 whole_words (whole.Value n) size = size_words size n (codes " pieces:")
 
-abbrev pub together_row : Medium → Whole → List ℕ → List (List ℕ) → List ℕ
+abbrev pub together_row : Medium → Whole → List ℕ → List ℕ → List ℕ
 together_row m whole bytes lines = row m side.Nobody (codes "together")
-    (whole_words whole (length bytes) ++ lines_text lines)
+    (whole_words whole (length bytes) ++ lines)
 
 abbrev pub PutsWhole : Whole → Shown → List (List ℕ) → List ℕ → Sheet → Sheet → Type 0
-PutsWhole whole shown tags bytes old new = (lines : List (List ℕ))
+PutsWhole whole shown tags bytes old new = (lines : List ℕ)
     × ShowsData shown tags true bytes lines
     × Adds old (together_row old.layout.medium whole bytes lines) new
 
@@ -161,13 +163,14 @@ whole_way (whole.Value n) = Some ToCard
 abbrev pub IsTogether : Mask → Bool → List ℕ → Medium → List ℕ → Type 0
 IsTogether mask is_loose header m text = text ≢ [] → (whole : Whole) × (way : Direction)
     × (whole_way whole ≡ Some way) × (bytes : List ℕ) × (shown : Shown)
-    × IsShown mask is_loose way header bytes shown × (lines : List (List ℕ))
+    × IsShown mask is_loose way header bytes shown × (lines : List ℕ)
     × ShowsData shown mask.tags.items true bytes lines
     × (text ≡ together_row m whole bytes lines)
 
 -- fields that only JSON has
 abbrev pub IsFields : Medium → List ℕ → Type 0
-IsFields m text = (fields : Fields) × (text ≡ fields_text m fields)
+IsFields Json text = (fields : Fields) × (text ≡ json_fields fields)
+IsFields m text = text ≡ []
 
 -- a text is one for which each of these holds in turn
 abbrev pub InOrder : List (Medium → List ℕ → Type 0) → Medium → List ℕ → Type 0

@@ -1,9 +1,13 @@
--- The fields of a TPDU that only JSON has.
-use Rattle.std.specs.Prelude.{ℕ, List, [], ◌++◌, ◌==◌, codes, length, if◌then◌else◌, Bool, true, false, Option, Some, None}
+-- The fields of a TPDU that only JSON has, and its data.
+use Rattle.std.specs.Prelude.{◌≡◌, ℕ, List, [], ◌++◌, ◌==◌, codes, length, if◌then◌else◌, Bool, true, false, Option, Some, None}
 use Rattle.std.specs.Fmt.{decimal}
 use Rattle.trace_explain.specs.declared.write.fields.Fields.{Fields}
-use Rattle.trace_explain.specs.declared.write.layout.Medium.{Medium}
 use Rattle.trace_explain.specs.declared.write.layout.Medium.TheVariants.{Json}
+use Rattle.trace_explain.specs.declared.write.layout.Side.{Side}
+use Rattle.trace_explain.specs.declared.write.layout.Side.TheVariants.{Terminal}
+use Rattle.trace_explain.specs.declared.describe.mask.Shown.{Shown}
+use Rattle.trace_explain.specs.declared.describe.mask.Shown.TheVariants.{All, Nothing}
+use Rattle.trace_explain.specs.Trees.{IsTree, value_field}
 use Rattle.trace_explain.specs.Written.{letters}
 
 -- a number after this text, or another text without a number
@@ -20,16 +24,30 @@ abbrev pub flag_text : List ℕ → Bool → List ℕ
 flag_text text false = []
 flag_text text true = text
 
--- the most bytes that Le asks for, unless they are hidden
-abbrev pub le_text : Fields → List ℕ
-le_text f = flag_text (codes ",\"le\":null") f.hides_le ++ number_text (codes ",\"le\":") f.le []
-
 abbrev pub json_fields : Fields → List ℕ
 json_fields f = number_text (codes ",\"time_us\":") f.time_us [] ++ name_text f.instruction.now
     ++ number_text (codes ",\"continues\":") f.continues (codes ",\"continues\":null")
     ++ flag_text (codes ",\"asked_again\":true") f.is_again
-    ++ le_text f ++ flag_text (codes ",\"masked\":true") f.is_masked
+    ++ flag_text (codes ",\"le\":null") f.hides_le ++ number_text (codes ",\"le\":") f.le []
+    ++ flag_text (codes ",\"masked\":true") f.is_masked
 
-abbrev pub fields_text : Medium → Fields → List ℕ
-fields_text Json f = json_fields f
-fields_text m f = []
+-- the start of the field for the data of an end
+abbrev pub value_name : Side → List ℕ
+value_name Terminal = codes ",\"sent\":"
+value_name s = codes ",\"received\":"
+
+-- data as digits, or `null` if some are hidden
+abbrev pub value_text : Shown → List ℕ → List ℕ
+value_text All bytes = value_field bytes
+value_text shown bytes = codes "null"
+
+-- objects in them are shown, unless all data are hidden
+abbrev pub shows_tree : Shown → Bool → Bool
+shows_tree Nothing may = false
+shows_tree shown may = may
+
+-- Data as a field, with the objects in them, as far as they are shown.
+abbrev pub IsField : Shown → List (List ℕ) → Side → Bool → List ℕ → List ℕ → Type 0
+IsField shown tags s may bytes text = (tree : List ℕ)
+    × IsTree true tags (shows_tree shown may) bytes tree
+    × (text ≡ value_name s ++ value_text shown bytes ++ tree)

@@ -18,7 +18,6 @@ pub mod Words
 pub mod Trees
 pub mod Sheets
 pub mod Fields
-pub mod JsonTrees
 pub mod Commands
 pub mod Boxes
 pub mod Account

@@ -124,17 +124,17 @@ abbrev pub dump : List ℕ → ℕ
 dump line = column (take (min (length line) 48) line)
 
 -- A field at the beginning of a line, up to its stop or the end, and what follows it.
+abbrev pub field_len : Stop → List ℕ → ℕ
+field_len stop.End line = length line
+field_len (stop.Before byte) line = place_of byte line
+field_len stop.Column line = column line
+field_len stop.Dump line = dump line
+
 abbrev pub field : Stop → List ℕ → List ℕ
-field stop.End line = line
-field (stop.Before byte) line = take (place_of byte line) line
-field stop.Column line = take (column line) line
-field stop.Dump line = take (dump line) line
+field stop line = take (field_len stop line) line
 
 abbrev pub behind_field : Stop → List ℕ → List ℕ
-behind_field stop.End line = []
-behind_field (stop.Before byte) line = drop (place_of byte line) line
-behind_field stop.Column line = drop (column line) line
-behind_field stop.Dump line = drop (dump line) line
+behind_field stop line = drop (field_len stop line) line
 
 -- A row of a dump: 16 bytes, or all if fewer are left, with a space behind each.
 abbrev pub row : ℕ → ℕ

@@ -1,12 +1,11 @@
 -- What a call adds to a sheet.
-use Rattle.std.specs.Prelude.{◌≡◌, ℕ, List, [], ◌∷◌, ◌++◌, Bool, true, false}
+use Rattle.std.specs.Prelude.{◌≡◌, ℕ, List, ◌++◌, true, false}
 use Rattle.std.specs.String.{string_bytes}
 use Rattle.trace_explain.specs.declared.write.layout.Medium.{Medium}
 use Rattle.trace_explain.specs.declared.write.layout.Side.{Side}
 use Rattle.trace_explain.specs.declared.write.sheet.Sheet.{Sheet}
-use Rattle.trace_explain.specs.Trees.{IsValue, remark}
 use Rattle.trace_explain.specs.Words.{IsWords}
-use Rattle.trace_explain.specs.Written.{are_printable, lines_text, some_row}
+use Rattle.trace_explain.specs.Written.{lines_text, some_row}
 
 -- Exactly this was added, unless memory ran out. Once it ran out, nothing is added.
 pub record Adds (old : Sheet) (more : List ℕ) (new : Sheet) : Type 0 where
@@ -36,21 +35,6 @@ HasText sheet text = sheet.is_cut ≡ false → string_bytes sheet.text ≡ text
 abbrev pub PutsLines : (List (List ℕ) → Type 0) → Sheet → Sheet → Type 0
 PutsLines Are old new = (lines : List (List ℕ)) × Are lines × Adds old (lines_text lines) new
 
-abbrev pub has_lines : List (List ℕ) → Bool
-has_lines [] = false
-has_lines (line ∷ lines) = true
-
--- the same, and this is whether there are any
-abbrev pub PutsAny : (List (List ℕ) → Type 0) → Bool → Sheet → Sheet → Type 0
-PutsAny Are some old new =
-    PutsLines (λ lines. Are lines × (some ≡ has_lines lines)) old new
-
--- a remark was added
-abbrev pub PutsRemark : Sheet → Sheet → Type 0
-PutsRemark old new = (says : List ℕ) × (are_printable says ≡ true) × Adds old (remark says) new
-
--- a value was added after its tag, with a remark
-abbrev pub PutsValue : ℕ → List ℕ → Sheet → Sheet → Type 0
-PutsValue level value old new = (says words : List ℕ) × (below : List (List ℕ))
-    × (are_printable says ≡ true) × IsValue level value says words below
-    × Adds old (words ++ lines_text below) new
+-- a text was added that is such in any medium
+abbrev pub PutsText : (List ℕ → Type 0) → Sheet → Sheet → Type 0
+PutsText Is old new = (text : List ℕ) × Is text × Adds old text new

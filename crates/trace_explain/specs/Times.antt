@@ -10,21 +10,22 @@ abbrev pub behind_spaces : List ℕ → List ℕ
 behind_spaces [] = []
 behind_spaces (b ∷ line) = if b == 32 then behind_spaces line else b ∷ line
 
--- Digits, points, colons and commas.
 abbrev pub is_digit : ℕ → Bool
 is_digit b = nat_le 48 b && nat_le b 57
 
-abbrev pub is_of_time : ℕ → Bool
-is_of_time b = is_digit b || (b == 46) || (b == 58) || (b == 44)
+-- Digits, points, colons and commas; and what may be part of a zone, if there may be one.
+abbrev pub is_of_time : Bool → ℕ → Bool
+is_of_time has_zone b = is_digit b || (b == 46) || (b == 58) || (b == 44)
+    || (has_zone && ((b == 43) || (b == 45) || (b == 90)))
 
-abbrev pub are_of_time : List ℕ → Bool
-are_of_time [] = true
-are_of_time (b ∷ bytes) = is_of_time b && are_of_time bytes
+abbrev pub are_of_time : Bool → List ℕ → Bool
+are_of_time has_zone [] = true
+are_of_time has_zone (b ∷ bytes) = is_of_time has_zone b && are_of_time has_zone bytes
 
 -- A digit, and then such bytes.
-abbrev pub is_stamp : List ℕ → Bool
-is_stamp [] = false
-is_stamp (b ∷ rest) = is_digit b && are_of_time rest
+abbrev pub is_stamp : Bool → List ℕ → Bool
+is_stamp has_zone [] = false
+is_stamp has_zone (b ∷ rest) = is_digit b && are_of_time has_zone rest
 
 abbrev pub is_unit : List ℕ → Bool
 is_unit [] = false
@@ -34,12 +35,9 @@ is_unit (b ∷ c ∷ d ∷ rest) = false
 
 -- The length of a time of each kind before the sign; 0 without such a time. Of a time in brackets
 -- and of one after `+` the first byte precedes the rest.
-abbrev pub stamp_len : List ℕ → ℕ
-stamp_len line = if is_stamp (take (place_of 32 line) line) then place_of 32 line else 0
-
 abbrev pub bracket_len : List ℕ → ℕ
 bracket_len rest = if nat_lt (place_of 93 rest) (length rest)
-    && is_stamp (behind_spaces (take (place_of 93 rest) rest)) then place_of 93 rest + 2 else 0
+    && is_stamp false (behind_spaces (take (place_of 93 rest) rest)) then place_of 93 rest + 2 else 0
 
 abbrev pub unit_behind : List ℕ → List ℕ
 unit_behind rest = behind_spaces (drop (place_of 32 rest) rest)
@@ -48,7 +46,7 @@ abbrev pub unit_end : List ℕ → List ℕ → ℕ
 unit_end rest unit = length rest - length unit + place_of 32 unit + 1
 
 abbrev pub shift_len : List ℕ → ℕ
-shift_len rest = if is_stamp (take (place_of 32 rest) rest)
+shift_len rest = if is_stamp false (take (place_of 32 rest) rest)
     && is_unit (take (place_of 32 (unit_behind rest)) (unit_behind rest))
     then unit_end rest (unit_behind rest) else 0
 
@@ -60,17 +58,6 @@ is_date (a ∷ b ∷ c ∷ d ∷ e ∷ f ∷ g ∷ h ∷ i ∷ j ∷ k ∷ rest)
     && ((k == 84) || (k == 32))
 is_date other = false
 
-abbrev pub is_of_zone : ℕ → Bool
-is_of_zone b = is_of_time b || (b == 43) || (b == 45) || (b == 90)
-
-abbrev pub are_of_zone : List ℕ → Bool
-are_of_zone [] = true
-are_of_zone (b ∷ bytes) = is_of_zone b && are_of_zone bytes
-
-abbrev pub is_zoned : List ℕ → Bool
-is_zoned [] = false
-is_zoned (b ∷ rest) = is_digit b && are_of_zone rest
-
 -- The same of syslog: `Nov 28 12:`.
 abbrev pub is_small : ℕ → Bool
 is_small b = nat_le 97 b && nat_le b 122
@@ -81,15 +68,17 @@ is_month (a ∷ b ∷ c ∷ d ∷ e ∷ f ∷ g ∷ h ∷ i ∷ j ∷ rest) = na
     && is_digit h && is_digit i && (j == 58)
 is_month other = false
 
-abbrev pub dated_len : ℕ → List ℕ → ℕ
-dated_len date time = if is_zoned (take (place_of 32 time) time) then date + place_of 32 time else 0
+abbrev pub dated_len : Bool → ℕ → List ℕ → ℕ
+dated_len has_zone date time =
+    if is_stamp has_zone (take (place_of 32 time) time) then date + place_of 32 time else 0
 
 abbrev pub time_len : List ℕ → ℕ
 time_len [] = 0
 time_len (b ∷ rest) = if b == 91 then bracket_len rest
     else if b == 43 then shift_len rest
-    else if is_date (b ∷ rest) then dated_len 11 (drop 11 (b ∷ rest))
-    else if is_month (b ∷ rest) then dated_len 7 (drop 7 (b ∷ rest)) else stamp_len (b ∷ rest)
+    else if is_date (b ∷ rest) then dated_len true 11 (drop 11 (b ∷ rest))
+    else if is_month (b ∷ rest) then dated_len true 7 (drop 7 (b ∷ rest))
+    else dated_len false 0 (b ∷ rest)
 
 -- Labels of Python's `logging` between a time and the rest: `- WORD - `, or two words.
 abbrev pub begins_dash : List ℕ → Bool

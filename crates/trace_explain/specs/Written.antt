@@ -155,30 +155,28 @@ abbrev pub some_row : Medium → Side → List ℕ → List ℕ → List ℕ
 some_row m side label [] = []
 some_row m side label (b ∷ text) = row m side label text
 
--- the characters of a header, each after its name on a page
-abbrev pub character_text : List ℕ → List ℕ → ℕ → List ℕ
-character_text name bytes place =
-    if nat_lt place (length bytes) then name ++ encode_upper (get_or bytes place 0 ∷ []) else []
+-- a character of a header, if it is there, between two texts
+abbrev pub character_text : List ℕ → List ℕ → ℕ → List ℕ → List ℕ
+character_text before bytes place behind = if nat_lt place (length bytes)
+    then before ++ encode_upper (get_or bytes place 0 ∷ []) ++ behind else []
 
+-- the characters of a header, each after its name on a page
 abbrev pub named : List ℕ → List ℕ
-named bytes = character_text (codes "CLA ") bytes 0 ++ character_text (codes "  INS ") bytes 1
-    ++ character_text (codes "  P1 ") bytes 2 ++ character_text (codes "  P2 ") bytes 3
-    ++ character_text (codes "  P3 ") bytes 4 ++ encode_upper (drop 5 bytes)
+named bytes = character_text (codes "CLA ") bytes 0 [] ++ character_text (codes "  INS ") bytes 1 []
+    ++ character_text (codes "  P1 ") bytes 2 [] ++ character_text (codes "  P2 ") bytes 3 []
+    ++ character_text (codes "  P3 ") bytes 4 [] ++ encode_upper (drop 5 bytes)
 
 -- and as fields of JSON
-abbrev pub header_field : List ℕ → List ℕ → ℕ → List ℕ
-header_field name bytes place = if nat_lt place (length bytes) then codes ",\"" ++ name
-    ++ codes "\":\"" ++ encode_upper (get_or bytes place 0 ∷ []) ++ codes "\"" else []
-
 abbrev pub header_fields : List ℕ → List ℕ
-header_fields bytes = header_field (codes "cla") bytes 0 ++ header_field (codes "ins") bytes 1
-    ++ header_field (codes "p1") bytes 2 ++ header_field (codes "p2") bytes 3
-    ++ header_field (codes "p3") bytes 4
+header_fields bytes = character_text (codes ",\"cla\":\"") bytes 0 (codes "\"")
+    ++ character_text (codes ",\"ins\":\"") bytes 1 (codes "\"")
+    ++ character_text (codes ",\"p1\":\"") bytes 2 (codes "\"")
+    ++ character_text (codes ",\"p2\":\"") bytes 3 (codes "\"")
+    ++ character_text (codes ",\"p3\":\"") bytes 4 (codes "\"")
 
 abbrev pub header_text : Medium → List ℕ → List ℕ
-header_text Text bytes = encode_upper bytes
 header_text Html bytes = named bytes
-header_text Json bytes = header_fields bytes
+header_text m bytes = encode_upper bytes
 
 -- what is shown in place of hidden data, or of a hidden header
 abbrev pub hidden : List ℕ

@@ -1,7 +1,6 @@
 //! The command line.
 
 use crate::describe::mask::{Mask, TagsFault};
-use crate::describe::names::Names;
 use crate::follow::blocks::edc_of;
 use crate::help;
 use crate::read::reading::Options;
@@ -44,21 +43,6 @@ impl<'a> Request<'a> {
             [] => Some("-"),
             [path] => Some(*path),
             _ => None,
-        }
-    }
-
-    /// The same, with these names.
-    pub fn with(self, names: Names) -> Request<'a> {
-        Request {
-            layout: self.layout,
-            title: self.title,
-            mask: self.mask.with(names),
-            resumes: self.resumes,
-            options: self.options,
-            paths: self.paths,
-            compared: self.compared,
-            names: self.names,
-            lists_names: self.lists_names,
         }
     }
 }

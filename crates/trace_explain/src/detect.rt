@@ -1,7 +1,9 @@
 //! Finds the form of a trace by its first lines.
 
 use crate::describe::mask::Mask;
-use crate::explain::explain;
+use crate::explain::{explain_chunk, explain_last};
+use crate::explain_fault::ExplainFault;
+use crate::explainer::Explainer;
 use crate::read::form_row::{Found, Rows, Saying, read_rows};
 use crate::read::forms::{FORMS, Forms, FormsFault};
 use crate::read::reading::{Options, Reading};
@@ -27,22 +29,22 @@ const LAYOUT: Layout = Layout {
 /// that fails ends them.
 pub fn head_of<R: Read>(alloc: Global, reader: &mut R) -> Result<Vec<u8>, AllocError> {
     let mut head = Vec::new(alloc);
-    let mut lines: usize = 0;
     for _chunk in 0..BYTES {
         let mut chunk = [0; 1024];
-        let count = match reader.read(&mut chunk) {
+        match reader.read(&mut chunk) {
             Ok(0) | Err(_) => break,
-            Ok(count) => count,
-        };
-        let bytes = &chunk[..count];
-        head.extend_from_slice(bytes)?;
-        let ends = bytes.iter().filter(|byte| **byte == b'\n').count();
-        lines = lines.saturating_add(ends);
-        if lines >= LINES || head.len() >= BYTES {
+            Ok(count) => head.extend_from_slice(&chunk[..count])?,
+        }
+        if is_cut(head.as_slice()) {
             break;
         }
     }
     Ok(head)
+}
+
+/// Whether more may follow these first lines.
+fn is_cut(head: &[u8]) -> bool {
+    head.len() >= BYTES || head.iter().filter(|byte| **byte == b'\n').count() >= LINES
 }
 
 /// Returns the forms of whole commands that read most of these lines, if characters at T=0 read
@@ -52,15 +54,14 @@ pub fn forms_of(
     options: &Options<'_>,
     head: &[u8],
 ) -> Result<Vec<&'static str>, FormsFault> {
-    let lines = whole_lines(head);
     let forms = Forms::of(alloc, FORMS)?;
-    let (count, is_read) = read_by(alloc, options, &forms, lines, 1)?;
+    let (count, is_read) = read_by(alloc, options, &forms, head, 1)?;
     let mut most = count.saturating_sub(usize::from(!is_read));
     let mut found = Vec::new(alloc);
     for form in &forms.forms {
         if form.is_whole {
             try_form(
-                alloc, options, &forms, lines, form.name, &mut most, &mut found,
+                alloc, options, &forms, head, form.name, &mut most, &mut found,
             )?;
         }
     }
@@ -73,7 +74,7 @@ fn try_form(
     alloc: Global,
     options: &Options<'_>,
     forms: &Forms<'static>,
-    lines: &[u8],
+    head: &[u8],
     name: &'static str,
     most: &mut usize,
     found: &mut Vec<&'static str>,
@@ -83,7 +84,7 @@ fn try_form(
         ..*options
     };
     let least = most.saturating_add(usize::from(found.is_empty()));
-    let (count, is_read) = read_by(alloc, &tried, forms, lines, least)?;
+    let (count, is_read) = read_by(alloc, &tried, forms, head, least)?;
     if !is_read {
         return Ok(());
     }
@@ -100,29 +101,44 @@ fn read_by(
     alloc: Global,
     options: &Options<'_>,
     forms: &Forms<'_>,
-    lines: &[u8],
+    head: &[u8],
     least: usize,
 ) -> Result<(usize, bool), FormsFault> {
     let reading = options.reading(alloc, forms)?;
-    let count = lines_read(alloc, &reading.rows, lines)?;
-    Ok((count, count >= least && is_read(alloc, reading, lines)))
+    let count = lines_read(alloc, &reading.rows, whole_lines(head))?;
+    Ok((count, count >= least && is_read(alloc, reading, head)))
 }
 
-/// Whether these lines have no fault.
-fn is_read(alloc: Global, reading: Reading, lines: &[u8]) -> bool {
-    let mut left = lines;
-    let mut text = Vec::new(alloc);
+/// Whether these lines have no fault. What is open where they are cut off may be whole behind it.
+fn is_read(alloc: Global, reading: Reading, head: &[u8]) -> bool {
     let mask = Mask::none(alloc);
-    explain(
-        alloc, LAYOUT, "", mask, false, reading, &mut left, &mut text,
-    )
-    .is_ok()
+    let mut explainer = Explainer::new(alloc, LAYOUT, "", mask, false, reading);
+    let mut line = Vec::new(alloc);
+    match explained(&mut explainer, head, &mut line) {
+        Ok(()) => true,
+        Err(ExplainFault::NothingWhole { .. }) => is_cut(head),
+        Err(_) => false,
+    }
+}
+
+/// Explains these lines. If they are cut off, it leaves open what is open there.
+fn explained(
+    explainer: &mut Explainer,
+    head: &[u8],
+    line: &mut Vec<u8>,
+) -> Result<(), ExplainFault> {
+    explain_chunk(explainer, whole_lines(head), line)?;
+    if !is_cut(head) {
+        explain_last(explainer, line.as_slice())?;
+        explainer.end()?;
+    }
+    explainer.outcome()
 }
 
 /// Returns how many of these lines have bytes or a reset.
-fn lines_read(alloc: Global, rows: &Rows, head: &[u8]) -> Result<usize, AllocError> {
+fn lines_read(alloc: Global, rows: &Rows, lines: &[u8]) -> Result<usize, AllocError> {
     let mut count: usize = 0;
-    for line in head.split(|byte| *byte == b'\n') {
+    for line in lines.split(|byte| *byte == b'\n') {
         let (_, text) = cut_time(line.strip_suffix(b"\r").unwrap_or(line));
         if !matches!(
             read_rows(alloc, rows.first.as_slice(), 0, text)?,

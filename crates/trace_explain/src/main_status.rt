@@ -3,6 +3,7 @@ ghost use Rattle.std.specs.Prelude.{◌≡◌, ◌≤◌, OnOk, IfErr};
 ghost use Rattle.trace_explain.specs.Trace.{status_of};
 
 use crate::command_line::{Request, parsed};
+use crate::describe::mask::Mask;
 use crate::describe::names::Names;
 use crate::detect::{forms_of, head_of};
 use crate::diff::{DiffFault, diff};
@@ -19,7 +20,7 @@ use std::alloc::Global;
 use std::fs::File;
 use std::io::{Read, Write, read_to_string};
 use std::rt::Files;
-use std::{fmt, io};
+use std::{fmt, io, mem};
 
 /// Runs the program on its words, and returns its exit status. The first word is its name.
 ///
@@ -53,7 +54,7 @@ pub fn main_status<D: Files, R: Read, W: Write, F: Write>(
 /// Does what the command line asks for. Returns the exit status.
 fn carry_out<D: Files, R: Read, W: Write, F: Write>(
     alloc: Global,
-    asked: Request<'_>,
+    mut asked: Request<'_>,
     files: &D,
     input: &mut R,
     output: &mut W,
@@ -66,9 +67,10 @@ fn carry_out<D: Files, R: Read, W: Write, F: Write>(
         Err(fault) => return print_fault(&fault, faults),
     };
     if asked.lists_names {
-        return list(&names, output, faults);
+        return status(&output.put(names.text().as_bytes()), faults);
     }
-    let asked = asked.with(names);
+    let mask = mem::replace(&mut asked.mask, Mask::none(alloc));
+    asked.mask = mask.with(names);
     let Some(paths) = asked.compared else {
         return explained(alloc, asked, files, input, output, faults);
     };
@@ -255,13 +257,6 @@ fn text_of<D: Files>(
     let fault = FormsFault::Open(kind);
     let file = File::open(files, path).ok().ok_or(fault)?;
     read_to_string(alloc, file).ok().ok_or(fault)
-}
-
-/// Writes the rows of names. Returns 0, or 1 for a fault.
-fn list<W: Write, F: Write>(names: &Names, output: &mut W, faults: &mut F) -> u8
-    ensures status { result ≤ 2 }
-{
-    status(&output.put(names.text().as_bytes()), faults)
 }
 
 /// Compares the traces of two files.

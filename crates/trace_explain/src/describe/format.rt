@@ -52,10 +52,11 @@ static FORMATS: [(&str, Format); 13] = [
     ("sfi", Format::ShortFile),
 ];
 
-/// The format with this name. `=SET` is a set of bits.
+/// The format with this name. `=SET` is a set of bits, whose name is printable.
 pub fn format_of(name: &str) -> Option<Format> {
     if let Some(set) = name.strip_prefix('=') {
-        return Some(Format::Bits(joined(0, set.as_bytes())));
+        let set = set.as_bytes();
+        return are_printable(set).then_some(Format::Bits(joined(0, set)));
     }
     for (other, format) in &FORMATS {
         if *other == name {
@@ -65,16 +66,13 @@ pub fn format_of(name: &str) -> Option<Format> {
     None
 }
 
-/// Adds the name of a row, and the value in words if its format has any.
-pub fn push_named(text: &mut Sheet, names: &Names, row: &TagRow, value: &[u8]) {
-    text.push_str(names.name(row));
-    push_words(text, names, row.format, value);
-}
-
-/// Adds a value in words if this format has any. A value that is not of the format has none.
-/// Separators precede them if there is a name.
-pub fn push_words(text: &mut Sheet, names: &Names, format: Format, value: &[u8]) {
-    match format {
+/// Adds a value in words, if there is a row and its format has any. A value that is not of the
+/// format has none. Separators precede them if there is a name.
+pub fn push_words(text: &mut Sheet, names: &Names, row: Option<&TagRow>, value: &[u8]) {
+    let Some(row) = row else {
+        return;
+    };
+    match row.format {
         Format::Silent => {}
         Format::Number => {
             if let Some(number) = decimal(value) {

@@ -176,9 +176,9 @@ impl Names {
         None
     }
 
-    /// The name of a row.
-    pub fn name(&self, row: &TagRow) -> &str {
-        self.words(row.name)
+    /// The name of a row; empty without one.
+    pub fn name(&self, row: Option<&TagRow>) -> &str {
+        row.map_or("", |row| self.words(row.name))
     }
 
     /// Words of a row.
@@ -247,13 +247,6 @@ fn words_before(end: usize, words: &str) -> Option<Words> {
     is_well.then_some(Words(end.checked_sub(words.len())?, end))
 }
 
-/// Cuts off the first word before this end. Returns the word, its place, and the rest.
-fn cut_word(row: &str, end: usize) -> Option<(&str, Words, &str)> {
-    let (word, rest) = row.split_once(' ')?;
-    let end = end.checked_sub(rest.len())?.checked_sub(1)?;
-    Some((word, words_before(end, word)?, rest))
-}
-
 /// Returns the place that a word stands for. No tag ends with `FF`.
 fn place_in(word: &str) -> Option<u64> {
     match word {
@@ -265,10 +258,10 @@ fn place_in(word: &str) -> Option<u64> {
 
 /// Reads the row of a tag, without its places, and these.
 fn tag_row(row: &str, end: usize) -> Option<(TagRow, &str)> {
-    let (tag, _, row) = cut_word(row, end)?;
-    let (places, _, row) = cut_word(row, end)?;
-    let (sizes, _, row) = cut_word(row, end)?;
-    let (format, _, name) = cut_word(row, end)?;
+    let (tag, row) = row.split_once(' ')?;
+    let (places, row) = row.split_once(' ')?;
+    let (sizes, row) = row.split_once(' ')?;
+    let (format, name) = row.split_once(' ')?;
     let is_place = |word| matches!(word, "*" | ".") || is_hex(word);
     let row = TagRow {
         tag: tag_of(tag)?,
@@ -311,7 +304,7 @@ fn sizes_of(sizes: &str) -> Option<(usize, usize)> {
 /// Reads the row of an application identifier of 5 to 16 bytes. Its key is the last byte of its
 /// provider.
 fn aid_row(row: &str, end: usize) -> Option<(u64, AidRow)> {
-    let (digits, _, name) = cut_word(row, end)?;
+    let (digits, name) = row.split_once(' ')?;
     let name = words_before(end, name)?;
     if !is_hex(digits) {
         return None;

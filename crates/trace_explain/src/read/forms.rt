@@ -218,28 +218,27 @@ impl<'t> Forms<'t> {
         Ok(names)
     }
 
-    /// Returns the rows of a log of this form.
-    pub fn of_log(&self, alloc: Global, place: usize, swaps: bool) -> Result<Rows, AllocError> {
+    /// Returns the rows of a log of this form, or without one those of characters, of all forms. If
+    /// `swaps`, a row of one end is one of the other. The place of the first form becomes `first`.
+    pub fn rows(
+        &self,
+        alloc: Global,
+        log: Option<usize>,
+        swaps: bool,
+        first: usize,
+    ) -> Result<Rows, AllocError> {
         let mut chosen = Rows::none(alloc);
         for row in &self.rows {
-            if row.form == place {
+            let is_chosen = match log {
+                Some(place) => row.form == place,
+                None => !self.is_whole(row.form),
+            };
+            if is_chosen {
                 let mut row = row.copied()?;
+                row.form = row.form.saturating_add(first);
                 if swaps {
                     row.says = row.says.swapped();
                 }
-                chosen.push(row)?;
-            }
-        }
-        Ok(chosen)
-    }
-
-    /// Returns the rows of characters, of all forms. The place of the first form becomes `first`.
-    pub fn of_characters(&self, alloc: Global, first: usize) -> Result<Rows, AllocError> {
-        let mut chosen = Rows::none(alloc);
-        for row in &self.rows {
-            if !self.is_whole(row.form) {
-                let mut row = row.copied()?;
-                row.form = row.form.saturating_add(first);
                 chosen.push(row)?;
             }
         }

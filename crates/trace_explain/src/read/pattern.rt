@@ -99,7 +99,7 @@ pub fn behind(part: Part, left: usize, line: &[u8]) -> Option<&[u8]>
         | Part::Bytes(stop)
         | Part::Short(stop)
         | Part::Status(stop)
-        | Part::Count(stop) => Some(behind_field(stop, line)),
+        | Part::Count(stop) => Some(cut_field(stop, line).1),
     }
 }
 
@@ -172,15 +172,18 @@ impl Marks {
             (marked part left line.now (marked_by self.old))) }
     {
         match part {
-            Part::Bytes(stop) => self.take_bytes(spelled(alloc, false, field(stop, line))?)?,
-            Part::Short(stop) => self.take_bytes(spelled(alloc, true, field(stop, line))?)?,
+            Part::Bytes(stop) => self.take_bytes(spelled(alloc, false, cut_field(stop, line).0)?)?,
+            Part::Short(stop) => self.take_bytes(spelled(alloc, true, cut_field(stop, line).0)?)?,
             Part::Row => self.take_bytes(row(alloc, left, line)?)?,
             Part::Zeros => self.take_bytes(zeros(alloc, left)?)?,
             Part::Status(stop) => {
-                append(&mut self.status, spelled(alloc, false, field(stop, line))?)?;
+                append(
+                    &mut self.status,
+                    spelled(alloc, false, cut_field(stop, line).0)?,
+                )?;
             }
             Part::Count(stop) => {
-                self.count = number_of(field(stop, line)).ok_or(LineFault::Hex)?;
+                self.count = number_of(cut_field(stop, line).0).ok_or(LineFault::Hex)?;
             }
             Part::More => self.goes_on = true,
             Part::Is(_)
@@ -244,28 +247,17 @@ fn zeros(alloc: Global, count: usize) -> Result<Vec<u8>, AllocError>
     Ok(bytes)
 }
 
-/// Returns a field at the beginning of a line.
-fn field(stop: Stop, line: &[u8]) -> &[u8]
-    ensures { result.now ≡ field stop line.now }
+/// Returns a field at the beginning of a line, and what follows it.
+fn cut_field(stop: Stop, line: &[u8]) -> (&[u8], &[u8])
+    ensures field { result.0.now ≡ field stop line.now }
+    ensures rest { result.1.now ≡ behind_field stop line.now }
 {
-    match stop {
-        Stop::End => line,
-        Stop::Before(byte) => &line[..place_of(byte, line)],
-        Stop::Column => &line[..column(line)],
-        Stop::Dump => &line[..dump(line)],
-    }
-}
-
-/// Returns what follows it.
-fn behind_field(stop: Stop, line: &[u8]) -> &[u8]
-    ensures { result.now ≡ behind_field stop line.now }
-{
-    match stop {
-        Stop::End => &line[line.len()..],
-        Stop::Before(byte) => &line[place_of(byte, line)..],
-        Stop::Column => &line[column(line)..],
-        Stop::Dump => &line[dump(line)..],
-    }
+    line.split_at(match stop {
+        Stop::End => line.len(),
+        Stop::Before(byte) => place_of(byte, line),
+        Stop::Column => column(line),
+        Stop::Dump => dump(line),
+    })
 }
 
 /// Returns the number of bytes before two spaces; all without them.

@@ -51,14 +51,13 @@ impl Options<'_> {
         };
         let is_whole = form.is_some_and(|place| forms.is_whole(place));
         let of_tpdus = self.of_tpdus || is_whole;
-        let rows = if of_tpdus {
-            let place = form.or(forms.place_of(LOG)).unwrap_or(0);
-            forms.of_log(alloc, place, self.swaps)?
+        let log = if of_tpdus {
+            form.or(forms.place_of(LOG))
         } else {
-            forms.of_characters(alloc, first)?
+            None
         };
         Ok(Reading {
-            rows,
+            rows: forms.rows(alloc, log, of_tpdus && self.swaps, first)?,
             form: form.map(|place| place.saturating_add(first)),
             swaps: self.swaps,
             is_unsigned: self.is_unsigned,

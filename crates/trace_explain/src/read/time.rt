@@ -1,6 +1,6 @@
 //! The time before the sign of a line, or before digits without one.
 ghost use Rattle.std.specs.Prelude.{◌≡◌, ◌≤◌, ◌+◌, length, true};
-ghost use Rattle.trace_explain.specs.Times.{are_decimal, are_of_time, are_of_zone, begins_dash, behind_clock, behind_label, behind_mark, behind_spaces, behind_tag, behind_time, behind_time_of, behind_word, bracket_len, dated_len, ends_tag, is_date, is_labelled, is_month, is_stamp, is_unit, is_zoned, place_of, shift_len, stamp_len, time_in, time_len};
+ghost use Rattle.trace_explain.specs.Times.{are_decimal, are_of_time, begins_dash, behind_clock, behind_label, behind_mark, behind_spaces, behind_tag, behind_time, behind_time_of, behind_word, bracket_len, dated_len, ends_tag, is_date, is_labelled, is_month, is_stamp, is_unit, place_of, shift_len, time_in, time_len};
 
 /// Returns the time that a line begins with, and what follows it and its spaces. Without a time the
 /// first is empty, and the second is the whole line. A byte order mark before it is skipped.
@@ -131,9 +131,9 @@ fn time_len(line: &[u8]) -> usize
     match line {
         [b'[', rest @ ..] => bracket_len(rest),
         [b'+', rest @ ..] => shift_len(rest),
-        _ if is_date(line) => dated_len(11, &line[11..]),
-        _ if is_month(line) => dated_len(7, &line[7..]),
-        _ => stamp_len(line),
+        _ if is_date(line) => dated_len(true, 11, &line[11..]),
+        _ if is_month(line) => dated_len(true, 7, &line[7..]),
+        _ => dated_len(false, 0, line),
     }
 }
 
@@ -184,49 +184,19 @@ fn is_month(line: &[u8]) -> bool
     )
 }
 
-/// The same for a date of this length and what follows it, a time of day and perhaps a zone.
-fn dated_len(date: usize, time: &[u8]) -> usize
+/// The same for a date of this length, 0 if it has none, and what follows it: a time of day, and
+/// perhaps a zone if `has_zone`.
+fn dated_len(has_zone: bool, date: usize, time: &[u8]) -> usize
     requires date { date ≤ 11 }
-    ensures value { result ≡ dated_len date time.now }
+    ensures value { result ≡ dated_len has_zone date time.now }
     ensures within { result ≤ length time.now + date }
 {
     let size = place_of(b' ', time);
-    if is_zoned(&time[..size]) {
+    if is_stamp(has_zone, &time[..size]) {
         date + size
     } else {
         0
     }
-}
-
-/// Whether the word is a digit, and then bytes of a time or zone.
-fn is_zoned(word: &[u8]) -> bool
-    ensures { result ≡ is_zoned word.now }
-{
-    match word {
-        [b'0'..=b'9', rest @ ..] => are_of_zone(rest),
-        _ => false,
-    }
-}
-
-/// Whether each byte may be part of a time or zone.
-fn are_of_zone(bytes: &[u8]) -> bool
-    ensures { result ≡ are_of_zone bytes.now }
-{
-    for &byte in bytes {
-        if !matches!(byte, b'0'..=b'9' | b'.' | b':' | b',' | b'+' | b'-' | b'Z') {
-            return false;
-        }
-    }
-    true
-}
-
-/// The same for digits with points and colons between them.
-fn stamp_len(line: &[u8]) -> usize
-    ensures value { result ≡ stamp_len line.now }
-    ensures within { result ≤ length line.now }
-{
-    let size = place_of(b' ', line);
-    if is_stamp(&line[..size]) { size } else { 0 }
 }
 
 /// The same for such digits in brackets, with any spaces before. `rest` follows the first bracket.
@@ -235,7 +205,7 @@ fn bracket_len(rest: &[u8]) -> usize
     ensures within { result ≤ length rest.now + 1 }
 {
     let size = place_of(b']', rest);
-    if size < rest.len() && is_stamp(behind_spaces(&rest[..size])) {
+    if size < rest.len() && is_stamp(false, behind_spaces(&rest[..size])) {
         size + 2
     } else {
         0
@@ -250,7 +220,7 @@ fn shift_len(rest: &[u8]) -> usize
     let (shift, behind) = rest.split_at(place_of(b' ', rest));
     let unit = behind_spaces(behind);
     let size = place_of(b' ', unit);
-    if is_stamp(shift) && is_unit(&unit[..size]) {
+    if is_stamp(false, shift) && is_unit(&unit[..size]) {
         rest.len() - unit.len() + size + 1
     } else {
         0
@@ -283,12 +253,12 @@ pub fn behind_spaces(line: &[u8]) -> &[u8]
     &[]
 }
 
-/// Whether the word is a digit, and then digits, points, colons and commas.
-fn is_stamp(word: &[u8]) -> bool
-    ensures { result ≡ is_stamp word.now }
+/// Whether the word is a digit, and then bytes of a time, or of a zone if `has_zone`.
+fn is_stamp(has_zone: bool, word: &[u8]) -> bool
+    ensures { result ≡ is_stamp has_zone word.now }
 {
     match word {
-        [b'0'..=b'9', rest @ ..] => are_of_time(rest),
+        [b'0'..=b'9', rest @ ..] => are_of_time(has_zone, rest),
         _ => false,
     }
 }
@@ -300,13 +270,16 @@ fn is_unit(word: &[u8]) -> bool
     matches!(word, b"s" | b"ms" | b"us")
 }
 
-/// Whether each byte is a digit, a point, a colon or a comma.
-fn are_of_time(bytes: &[u8]) -> bool
-    ensures { result ≡ are_of_time bytes.now }
+/// Whether each byte is a digit, a point, a colon or a comma, or may be part of a zone if
+/// `has_zone`.
+fn are_of_time(has_zone: bool, bytes: &[u8]) -> bool
+    ensures { result ≡ are_of_time has_zone bytes.now }
 {
     for &byte in bytes {
-        if !matches!(byte, b'0'..=b'9' | b'.' | b':' | b',') {
-            return false;
+        match byte {
+            b'0'..=b'9' | b'.' | b':' | b',' => {}
+            b'+' | b'-' | b'Z' if has_zone => {}
+            _ => return false,
         }
     }
     true

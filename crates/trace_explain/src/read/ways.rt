@@ -4,8 +4,8 @@ ghost use Rattle.trace_explain.specs.WaysOf.{way_of};
 
 use crate::instructions::instruction;
 use crate::read::digits::byte_of;
-use std::fmt;
 use t0_core::Direction;
+use thiserror::Error;
 
 /// The ways that `--to-card` and `--from-card` give, for every class.
 #[derive(Clone, Copy)]
@@ -15,11 +15,13 @@ pub struct Ways {
 }
 
 /// Why such an option is refused.
-#[derive(Clone, Copy)]
+#[derive(Clone, Copy, Debug, Error)]
 pub enum WaysFault {
     /// Its value is not a list of two digits each, with commas between them.
+    #[error("not instructions of two digits with commas between them")]
     Form,
     /// The options give both ways for this instruction.
+    #[error("both ways are said of {0:02X}")]
     Both(u8),
 }
 
@@ -63,17 +65,6 @@ impl Ways {
         match given {
             Some(way) => Some(way),
             None => instruction(cla, ins).map(|(_, way, _)| way),
-        }
-    }
-}
-
-impl fmt::Display for WaysFault {
-    fn fmt<W: fmt::Write>(&self, f: &mut fmt::Formatter<W>) -> fmt::Result {
-        match self {
-            WaysFault::Form => {
-                f.write_str("not instructions of two digits with commas between them")
-            }
-            WaysFault::Both(ins) => write!(f, "both ways are said of {ins:02X}"),
         }
     }
 }

@@ -1,11 +1,13 @@
-//! Fields of a TPDU that only JSON has, beside its header, data and status.
+//! Fields of a TPDU that only JSON has: its data, and those beside its header, data and status.
 ghost use Rattle.std.specs.Prelude.{◌≡◌};
-ghost use Rattle.trace_explain.specs.Fields.{fields_text, flag_text, json_fields, le_text, name_text, number_text};
-ghost use Rattle.trace_explain.specs.Sheets.{Adds};
+ghost use Rattle.trace_explain.specs.Fields.{IsField, flag_text, json_fields, name_text, number_text, shows_tree, value_name, value_text};
+ghost use Rattle.trace_explain.specs.Sheets.{Adds, PutsText};
 
-use crate::write::layout::Medium;
+use crate::describe::mask::{Mask, Shown};
+use crate::write::layout::{Medium, Side};
 use crate::write::row::push_letters;
 use crate::write::sheet::Sheet;
+use crate::write::tree::{push_string, push_tree};
 
 /// These fields.
 #[derive(Clone, Copy)]
@@ -26,31 +28,8 @@ pub struct Fields {
     pub is_masked: bool,
 }
 
-impl Fields {
-    /// Those of text and of pages, which show none.
-    pub const NONE: Fields = Fields {
-        time_us: None,
-        instruction: "",
-        continues: None,
-        is_again: false,
-        le: None,
-        hides_le: false,
-        is_masked: false,
-    };
-}
-
-/// Adds the fields in JSON. Text and pages have none.
-pub fn push_fields(sheet: &mut Sheet, fields: Fields)
-    ensures { Adds sheet.old (fields_text sheet.old.layout.medium fields) sheet.new }
-{
-    match sheet.layout().medium {
-        Medium::Json => push_json(sheet, fields),
-        _ => {}
-    }
-}
-
 /// Adds the fields.
-fn push_json(sheet: &mut Sheet, fields: Fields)
+pub fn push_fields(sheet: &mut Sheet, fields: Fields)
     ensures { Adds sheet.old (json_fields fields) sheet.new }
 {
     push_number(sheet, ",\"time_us\":", fields.time_us, "");
@@ -62,16 +41,9 @@ fn push_json(sheet: &mut Sheet, fields: Fields)
         ",\"continues\":null",
     );
     push_flag(sheet, ",\"asked_again\":true", fields.is_again);
-    push_le(sheet, fields);
-    push_flag(sheet, ",\"masked\":true", fields.is_masked);
-}
-
-/// Adds the most bytes that Le asks for, or `null` if they are hidden.
-fn push_le(sheet: &mut Sheet, fields: Fields)
-    ensures { Adds sheet.old (le_text fields) sheet.new }
-{
     push_flag(sheet, ",\"le\":null", fields.hides_le);
     push_number(sheet, ",\"le\":", fields.le, "");
+    push_flag(sheet, ",\"masked\":true", fields.is_masked);
 }
 
 /// Adds a number after this text, or another text without a number.
@@ -106,5 +78,56 @@ fn push_flag(sheet: &mut Sheet, text: &str, is_so: bool)
 {
     if is_so {
         sheet.push_str(text);
+    }
+}
+
+/// Adds the data of an end as a field, as far as they are shown: digits, or `null` if some are
+/// hidden. Objects in them, without hidden values, are another. The words for these are made in
+/// `words`, which is cleared.
+pub fn push_data(
+    sheet: &mut Sheet,
+    shown: Shown,
+    side: Side,
+    may_be_objects: bool,
+    bytes: &[u8],
+    mask: &Mask,
+    words: &mut Sheet,
+)
+    ensures { PutsText (IsField shown mask.now.tags.items side may_be_objects bytes.now) sheet.old
+        sheet.new }
+{
+    sheet.push_str(value_name(side));
+    push_value(sheet, shown, bytes);
+    let may_be_objects = shows_tree(shown, may_be_objects);
+    push_tree(sheet, true, may_be_objects, bytes, mask, words);
+}
+
+/// The start of the field for the data of an end.
+fn value_name(side: Side) -> &'static str
+    ensures { result.now ≡ value_name side }
+{
+    match side {
+        Side::Terminal => ",\"sent\":",
+        _ => ",\"received\":",
+    }
+}
+
+/// Adds data as digits, or `null` if some are hidden.
+fn push_value(sheet: &mut Sheet, shown: Shown, bytes: &[u8])
+    ensures { Adds sheet.old (value_text shown bytes.now) sheet.new }
+{
+    match shown {
+        Shown::All => push_string(sheet, bytes),
+        _ => sheet.push_str("null"),
+    }
+}
+
+/// Whether data may be objects that are shown.
+pub fn shows_tree(shown: Shown, may_be_objects: bool) -> bool
+    ensures { result ≡ shows_tree shown may_be_objects }
+{
+    match shown {
+        Shown::Nothing => false,
+        _ => may_be_objects,
     }
 }

@@ -14,13 +14,9 @@ use std::fmt;
 /// The hexadecimal digits.
 const DIGITS: &[u8; 16] = b"0123456789ABCDEF";
 
-/// The room for the words of an object. Most names fit in it.
-const ROOM: usize = 64;
-
 /// A text to which parts are added until memory runs out. Callers ask `is_whole` once, at the end.
 #[derive(Drop)]
 pub struct Sheet {
-    alloc: Global,
     layout: Layout,
     text: String,
     is_cut: bool,
@@ -35,19 +31,11 @@ impl Sheet {
         ensures text { string_bytes result.text ≡ [] }
     {
         Sheet {
-            alloc,
             layout,
             text: String::new(alloc),
             is_cut: false,
             hides: false,
         }
-    }
-
-    /// Another text without anything, with room for words that are added later.
-    pub fn empty(&self) -> Sheet {
-        let mut sheet = Sheet::new(self.alloc, self.layout);
-        sheet.is_cut = sheet.text.reserve(ROOM).is_err();
-        sheet
     }
 
     /// The layout.

@@ -1,7 +1,7 @@
 //! The number, line, header and status of a TPDU.
 ghost use Rattle.std.specs.Prelude.{◌≡◌, ◌++◌, ℕ, List, codes, drop};
 ghost use Rattle.trace_explain.specs.Sheets.{Adds, HasText};
-ghost use Rattle.trace_explain.specs.Written.{before, character_text, header_row, header_text, line_before, line_behind, line_text, named, number_before, number_behind, number_text, status_digits, status_row, title_text, header_field, header_fields, shown_header};
+ghost use Rattle.trace_explain.specs.Written.{before, character_text, header_row, header_text, line_before, line_behind, line_text, named, number_before, number_behind, number_text, status_digits, status_row, title_text, header_fields, shown_header};
 
 use crate::write::ascii::cut;
 use crate::write::html::{push_box, push_mark};
@@ -92,24 +92,11 @@ const NO_HEADER: &str = ",\"cla\":null,\"ins\":null,\"p1\":null,\"p2\":null,\"p3
 fn push_fields(sheet: &mut Sheet, header: &[u8])
     ensures { Adds sheet.old (header_fields header.now) sheet.new }
 {
-    push_field(sheet, "cla", header, 0);
-    push_field(sheet, "ins", header, 1);
-    push_field(sheet, "p1", header, 2);
-    push_field(sheet, "p2", header, 3);
-    push_field(sheet, "p3", header, 4);
-}
-
-/// Adds the character of a header at this place, counted from 0, as a field of JSON.
-fn push_field(sheet: &mut Sheet, name: &str, header: &[u8], place: usize)
-    ensures { Adds sheet.old (header_field name.now header.now place) sheet.new }
-{
-    if place < header.len() {
-        sheet.push_str(",\"");
-        sheet.push_str(name);
-        sheet.push_str("\":\"");
-        sheet.push_hex(&[header[place]]);
-        sheet.push_str("\"");
-    }
+    push_character(sheet, ",\"cla\":\"", header, 0, "\"");
+    push_character(sheet, ",\"ins\":\"", header, 1, "\"");
+    push_character(sheet, ",\"p1\":\"", header, 2, "\"");
+    push_character(sheet, ",\"p2\":\"", header, 3, "\"");
+    push_character(sheet, ",\"p3\":\"", header, 4, "\"");
 }
 
 /// Adds the row of a header in text or on a page.
@@ -131,9 +118,8 @@ fn push_characters(sheet: &mut Sheet, medium: Medium, header: &[u8])
     ensures { Adds sheet.old (header_text medium header.now) sheet.new }
 {
     match medium {
-        Medium::Text => sheet.push_hex(header),
         Medium::Html => push_named(sheet, header),
-        Medium::Json => push_fields(sheet, header),
+        _ => sheet.push_hex(header),
     }
 }
 
@@ -141,22 +127,24 @@ fn push_characters(sheet: &mut Sheet, medium: Medium, header: &[u8])
 fn push_named(sheet: &mut Sheet, header: &[u8])
     ensures { Adds sheet.old (named header.now) sheet.new }
 {
-    push_character(sheet, "CLA ", header, 0);
-    push_character(sheet, "  INS ", header, 1);
-    push_character(sheet, "  P1 ", header, 2);
-    push_character(sheet, "  P2 ", header, 3);
-    push_character(sheet, "  P3 ", header, 4);
+    push_character(sheet, "CLA ", header, 0, "");
+    push_character(sheet, "  INS ", header, 1, "");
+    push_character(sheet, "  P1 ", header, 2, "");
+    push_character(sheet, "  P2 ", header, 3, "");
+    push_character(sheet, "  P3 ", header, 4, "");
     let (_, rest) = cut(header, 5);
     sheet.push_hex(rest);
 }
 
-/// Adds the character of a header at this place, counted from 0, after its name.
-fn push_character(sheet: &mut Sheet, name: &str, header: &[u8], place: usize)
-    ensures { Adds sheet.old (character_text name.now header.now place) sheet.new }
+/// Adds the character of a header at this place, counted from 0, between these texts, if it is
+/// there.
+fn push_character(sheet: &mut Sheet, before: &str, header: &[u8], place: usize, behind: &str)
+    ensures { Adds sheet.old (character_text before.now header.now place behind.now) sheet.new }
 {
     if place < header.len() {
-        sheet.push_str(name);
+        sheet.push_str(before);
         sheet.push_hex(&[header[place]]);
+        sheet.push_str(behind);
     }
 }
 

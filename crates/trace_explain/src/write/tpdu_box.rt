@@ -1,9 +1,8 @@
 //! The box of a TPDU, row by row.
-ghost use Rattle.std.specs.Prelude.{◌≡◌, ◌∷◌, [], false};
-ghost use Rattle.trace_explain.specs.Boxes.{HasAsker, IsAnswer, IsBar, IsBeside, IsData, IsDataRow, IsFields, IsStatus, IsTitle, IsTogether, PutsBeside, PutsBox, PutsDataRow, PutsWhole, ShowsData, no_data, side_of, status_side};
-ghost use Rattle.trace_explain.specs.Sheets.{Adds, Puts, PutsLines};
+ghost use Rattle.std.specs.Prelude.{◌≡◌, false};
+ghost use Rattle.trace_explain.specs.Boxes.{HasAsker, IsAnswer, IsBeside, IsData, IsDataRow, IsFields, IsPlain, IsStatus, IsTitle, IsTogether, PutsBeside, PutsBox, PutsDataRow, PutsWhole, ShowsData, no_data, side_of, status_side};
+ghost use Rattle.trace_explain.specs.Sheets.{Adds, Puts, PutsText};
 ghost use Rattle.trace_explain.specs.Reports.{report_of};
-ghost use Rattle.trace_explain.specs.Written.{hidden};
 
 use crate::describe::block_words::push_blocks;
 use crate::describe::clock::{Clock, push_duration};
@@ -16,16 +15,15 @@ use crate::follow::story::{Story, header_of};
 use crate::follow::tpdu::{Tpdu, are_status};
 use crate::instructions::may_have_objects;
 use crate::write::ascii::push_digits;
-use crate::write::fields::{Fields, push_fields};
+use crate::write::fields::{Fields, push_data, push_fields, shows_tree};
 use crate::write::html::{push_bar, push_beside, push_box_end};
-use crate::write::json_tree::push_data;
 use crate::write::layout::{Kind, Medium, Side};
 use crate::write::output::Output;
 use crate::write::page::Page;
 use crate::write::row::{ROW_INDENT, push_lines_row, push_row_of};
 use crate::write::sheet::Sheet;
 use crate::write::shown::{push_header, push_line, push_status, push_title};
-use crate::write::tree_row::push_tree;
+use crate::write::tree::push_tree;
 use apdu_core::count;
 use t0_core::Direction;
 
@@ -54,7 +52,8 @@ pub fn tell_box(
     let status = tpdu.status.as_slice();
     tell_title(&outline, name_of(tpdu), status, links, tpdu.line, output);
     tell_beside(tpdu, links, mask, output);
-    tell_bar(clock, output);
+    let (all, card) = clock.took_us();
+    push_bar(&mut output.sheet, all, card);
     push_line(&mut output.sheet, tpdu.line);
     tell_fields(tpdu, &outline, links, clock, mask, output);
     output.page.push_file();
@@ -122,14 +121,6 @@ fn tell_value(shown: Shown, bytes: &[u8], mask: &Mask, output: &mut Output)
     output.page.lines.clear();
 }
 
-/// Adds a bar for the time to the title on a page.
-fn tell_bar(clock: &Clock, output: &mut Output)
-    ensures { Puts IsBar output.old.sheet output.new.sheet }
-{
-    let (all, card) = clock.took_us();
-    push_bar(&mut output.sheet, all, card);
-}
-
 /// Adds the fields that only JSON has.
 fn tell_fields(
     tpdu: &Tpdu,
@@ -141,11 +132,13 @@ fn tell_fields(
 )
     ensures { Puts IsFields output.old.sheet output.new.sheet }
 {
-    let fields = match output.sheet.layout().medium {
-        Medium::Json => fields_of(tpdu, outline, links, clock, mask),
-        _ => Fields::NONE,
-    };
-    push_fields(&mut output.sheet, fields);
+    match output.sheet.layout().medium {
+        Medium::Json => {
+            let fields = fields_of(tpdu, outline, links, clock, mask);
+            push_fields(&mut output.sheet, fields);
+        }
+        _ => {}
+    }
 }
 
 /// The fields that only JSON has.
@@ -279,7 +272,15 @@ fn tell_row(
         output.old.sheet output.new.sheet }
 {
     match output.sheet.layout().medium {
-        Medium::Json => push_data(&mut output.sheet, shown, side, may_be_objects, bytes, mask),
+        Medium::Json => push_data(
+            &mut output.sheet,
+            shown,
+            side,
+            may_be_objects,
+            bytes,
+            mask,
+            &mut output.page.text,
+        ),
         _ => tell_lines(shown, side, may_be_objects, bytes, mask, output),
     }
 }
@@ -305,22 +306,25 @@ fn tell_lines(
 /// Adds the lines of data to those of the page, as far as they are shown: as a tree if they may be
 /// objects and are some, otherwise as digits with text beside them. The page's text must be empty.
 fn push_shown(page: &mut Page, shown: Shown, may_be_objects: bool, bytes: &[u8], mask: &Mask)
-    ensures { PutsLines (ShowsData shown mask.now.tags.items may_be_objects bytes.now)
+    ensures { PutsText (ShowsData shown mask.now.tags.items may_be_objects bytes.now)
         page.old.lines page.new.lines }
 {
-    match shown {
-        Shown::Nothing => push_hidden(&mut page.lines),
-        _ if push_tree(page, may_be_objects, bytes, mask) => {}
-        Shown::Objects => push_hidden(&mut page.lines),
-        Shown::All => push_digits(&mut page.lines, bytes),
+    let (lines, words) = (&mut page.lines, &mut page.text);
+    let may_be_objects = shows_tree(shown, may_be_objects);
+    let some = push_tree(lines, false, may_be_objects, bytes, mask, words);
+    if !some {
+        push_plain(&mut page.lines, shown, bytes);
     }
 }
 
-/// Adds the line for hidden data.
-fn push_hidden(lines: &mut Sheet)
-    ensures { PutsLines (λ all. all ≡ hidden ∷ []) lines.old lines.new }
+/// Adds data as lines of digits, or a line in place of them if some are hidden.
+fn push_plain(lines: &mut Sheet, shown: Shown, bytes: &[u8])
+    ensures { PutsText (IsPlain shown bytes.now) lines.old lines.new }
 {
-    lines.push_str("\n**");
+    match shown {
+        Shown::All => push_digits(lines, bytes),
+        _ => lines.push_str("\n**"),
+    }
 }
 
 /// Adds the row of the data that the card returned beside those of the terminal, if any. In JSON

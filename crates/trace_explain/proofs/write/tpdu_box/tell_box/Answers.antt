@@ -28,7 +28,7 @@ returns-clause-puts c = λ whole.
     (put_first (IsTitle number t.status)
     (subst T c.as_slice-status.ensures.value c.tell_title.ensures)
     (put_first (IsBeside mask t.is_loose t.way t.header t.moved) c.tell_beside.ensures
-    (put_first IsBar c.tell_bar.ensures
+    (put_first IsBar c.push_bar.ensures
     (put_first (λ m text. text ≡ line_text m t.line) (_, refl, c.push_line.ensures)
     (put_first IsFields c.tell_fields.ensures
     (put_first (IsRow Nobody (codes "file")) c.row.ensures

@@ -1,6 +1,6 @@
 use Rattle.std.proofs.Common.{◌≡◌, [], true, false, refl}
 use Rattle.trace_explain.proofs.SheetLemmas.{adds_nothing}
-use Rattle.trace_explain.proofs.write.json_tree.push_tree.Goals as goal
+use Rattle.trace_explain.proofs.write.tree.push_tree.Goals as goal
 
 pub returns-in-Err : goal.returns-in-Err
 returns-in-Err c = (
@@ -11,5 +11,6 @@ returns-in-Err c = (
     objects = λ may are.
         absurd (let no : false ≡ true = c.in-Err.ensures.objects.1 are in cc);
   },
+  refl,
   adds_nothing,
 )

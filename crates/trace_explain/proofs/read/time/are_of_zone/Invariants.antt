@@ -1,7 +1,0 @@
-use Rattle.std.proofs.Common.{◌≡◌, drop}
-use Rattle.trace_explain.specs.Times.{are_of_zone}
-use Rattle.trace_explain.proofs.read.time.are_of_zone.Given as goal
-
--- The rest decides.
-abbrev pub invariant-loop-byte : goal.invariant-loop-byte
-invariant-loop-byte l = are_of_zone l.bytes ≡ are_of_zone (drop l.byte-index l.bytes)

@@ -1,5 +1,0 @@
-use Rattle.std.proofs.Common.{[], refl}
-use Rattle.trace_explain.proofs.write.tree_row.push_remark.Goals as goal
-
-pub returns-then-is_cut : goal.returns-then-is_cut
-returns-then-is_cut c = ([], refl, c.cut.ensures [])

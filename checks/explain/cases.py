@@ -45,6 +45,7 @@
 Only cases/ lists the last block. Elsewhere `block_of` counts what is above it. In the tables
 a line that begins with `#` is a comment."""
 
+import os
 import re
 import subprocess
 from collections import Counter
@@ -668,6 +669,11 @@ def all_cases():
     secret = secret_cases([["--resume"], ["--json", "--commands"]])
     long = long_cases(long_traces.traces())
     return [*rows_and_stories(), *secret, *long]
+
+
+def some(cases):
+    """All of these cases, or with CHECKS_BRIEF=yes each twentieth."""
+    return list(cases)[:: 20 if os.environ.get("CHECKS_BRIEF") else 1]
 
 
 def run_of(program, case, folder):

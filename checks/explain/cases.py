@@ -45,11 +45,12 @@
 Only cases/ lists the last block. Elsewhere `block_of` counts what is above it. In the tables
 a line that begins with `#` is a comment."""
 
+import os
 import re
 import subprocess
 from collections import Counter
 from dataclasses import dataclass, field
-from itertools import chain, zip_longest
+from itertools import chain, cycle, islice, zip_longest
 from pathlib import Path
 
 import long_traces
@@ -510,18 +511,18 @@ def add_row(case, word, rest, part):
         raise ValueError(f"{case.name}: {word} {rest}")
 
 
-def secret_cases(ways):
-    """Each trace or log with a secret, in each of these ways with a mask. `--resume` is left out
-    for logs."""
-    for name, tags, lines in secrets.traces():
-        for words in ways:
-            masked = [*words, "--mask", *tags]
-            yield Case(name, lines_of(lines), [], masked, secret=secrets.BYTES)
-    for name, tags, lines in secrets.of_logs():
-        for words in ways:
-            words = [word for word in words if word != "--resume"]
-            masked = ["--tpdu", *words, "--mask", *tags]
-            yield Case(name, lines_of(lines), [], masked, secret=secrets.BYTES)
+def secret_cases(others=()):
+    """Each trace or log with a secret, with a mask, in two ways. The first two of a name are also
+    tried in all of the others, the next ones in one of them in turn. A log has no `--resume`."""
+    turn, seen = cycle(others), Counter()
+    for log, traces in ([], secrets.traces()), (["--tpdu"], secrets.of_logs()):
+        for name, tags, lines in traces:
+            seen[name] += 1
+            more = others if seen[name] < 3 else islice(turn, 1)
+            for words in (["--resume"], ["--json", "--commands"], *more):
+                words = [word for word in words if word != "--resume" or not log]
+                yield Case(name, lines_of(lines), [], [*log, *words, "--mask", *tags],
+                           secret=secrets.BYTES)
 
 
 def link_cases():
@@ -626,10 +627,9 @@ def lines_of(lines):
 
 def tables():
     """The cases of the tables, those of secrets, and the long ones."""
-    ways = [], ["--html"], ["--resume"], ["--summary", "--resume"]
-    ways = (*ways, ["--commands"], ["--json", "--commands"])
+    others = [], ["--html"], ["--summary", "--resume"], ["--commands"]
     long = long_cases([*long_traces.traces(), *long_traces.at_limits()])
-    return [*rows_and_stories(), *secret_cases(ways), *long]
+    return [*rows_and_stories(), *secret_cases(others), *long]
 
 
 def rows_and_stories():
@@ -664,10 +664,15 @@ def table_cases():
 
 
 def all_cases():
-    """All cases, the small ones first. Those with secrets are tried in one way only."""
-    secret = secret_cases([["--resume"], ["--json", "--commands"]])
+    """All cases, the small ones first. Those with secrets are tried in two ways."""
+    secret = secret_cases()
     long = long_cases(long_traces.traces())
     return [*rows_and_stories(), *secret, *long]
+
+
+def some(cases):
+    """All of these cases, or with CHECKS_BRIEF=yes each twentieth."""
+    return list(cases)[:: 20 if os.environ.get("CHECKS_BRIEF") else 1]
 
 
 def run_of(program, case, folder):

@@ -152,7 +152,7 @@ def fault_of(program, case):
 
 def main(programs):
     """Tries all cases with each program."""
-    for program, case in product(programs, cases.table_cases()):
+    for program, case in product(programs, cases.some(cases.table_cases())):
         if "--diff" in case.words:
             continue
         try:

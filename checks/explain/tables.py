@@ -7,7 +7,10 @@ from pathlib import Path
 
 sys.dont_write_bytecode = True
 sys.path.insert(0, str(Path(__file__).resolve().parent))
-from cases import run_of, tables  # noqa: E402
+from cases import run_of, some, tables  # noqa: E402
+
+# The parts whose rows count.
+COUNTED = ("titles", "statuses")
 
 
 def status_of(case):
@@ -18,16 +21,15 @@ def status_of(case):
     return (1,) if case.error or differ else (0,)
 
 
-def main(program):
-    for case in tables():
-        with tempfile.TemporaryDirectory() as name:
-            run = run_of(program, case, Path(name))
-        said = case.fault(run.stdout.decode(), run.stderr.decode())
-        if not said and run.returncode not in status_of(case):
-            said = f"{case.name}: status {run.returncode}"
-        rows = len(case.wanted) if case.part in ("titles", "statuses") else 1
-        for line in [said] if said else ["passed"] * rows:
-            print(line)
+def told(program, case, room):
+    """The lines for a case."""
+    run = run_of(program, case, room)
+    said = case.fault(run.stdout.decode(), run.stderr.decode())
+    if not said and run.returncode not in status_of(case):
+        said = f"{case.name}: status {run.returncode}"
+    return [said] if said else ["passed"] * (len(case.wanted) if case.part in COUNTED else 1)
 
 
-main(*sys.argv[1:])
+with tempfile.TemporaryDirectory() as room:
+    for case in some(tables()):
+        print(*told(sys.argv[1], case, Path(room)), sep="\n")

@@ -16,6 +16,7 @@ LEXED = re.compile(
     re.S | re.X,
 )
 ANTT = re.compile(r"""(?P<line>(?<!\S)--(?=\s|$)[^\n]*)|"(?:\\.|[^"\\\n])*"|[^"-]+|.""", re.S)
+BEFORE_STATEMENTS = (tokenize.NEWLINE, tokenize.INDENT, tokenize.DEDENT)
 MARK = re.compile(r"//[/!]|//|--|/\*+|\*/|\*|#")
 
 
@@ -54,52 +55,22 @@ def lexed(pattern, text):
 
 
 def of_python(text):
-    found = [
-        (it.start[0], it.string)
-        for it in tokenize.generate_tokens(io.StringIO(text).readline)
-        if it.type == tokenize.COMMENT
-    ]
-    for node in ast.walk(ast.parse(text)):
-        if has_docstring(node):
-            found.append((node.body[0].lineno, node.body[0].value.value))
-    yield from sorted(found)
-
-
-def has_docstring(node):
-    kinds = (ast.Module, ast.ClassDef, ast.FunctionDef, ast.AsyncFunctionDef)
-    return isinstance(node, kinds) and ast.get_docstring(node, clean=False) is not None
+    """Comments, and strings that are statements, as docstrings are."""
+    before = tokenize.NEWLINE
+    for it in tokenize.generate_tokens(io.StringIO(text).readline):
+        if it.type == tokenize.COMMENT:
+            yield it.start[0], it.string
+        elif it.type == tokenize.STRING and before in BEFORE_STATEMENTS:
+            yield it.start[0], ast.literal_eval(it.string)
+        if it.type not in (tokenize.COMMENT, tokenize.NL):
+            before = it.type
 
 
 def of_shell(text):
-    """Whole lines that begin with `#`, outside quotes and here-documents. Any other `#` may be
-    code."""
-    quote, ends = "", None
+    """Whole lines that begin with `#`, also those in texts. Any other `#` may be code."""
     for number, line in enumerate(text.splitlines(), 1):
-        if ends is not None:
-            ends = None if line.strip() == ends else ends
-            continue
-        if not quote and line.lstrip().startswith("#"):
-            if number > 1 or not line.startswith("#!"):
-                yield number, line.strip()
-            continue
-        at = 0
-        while at < len(line):
-            sign = line[at]
-            if quote:
-                if sign == "\\" and quote == '"':
-                    at += 1
-                elif sign == quote:
-                    quote = ""
-            elif sign == "\\":
-                at += 1
-            elif sign in "'\"":
-                quote = sign
-            elif sign == "#" and (at == 0 or line[at - 1].isspace()):
-                break
-            at += 1
-        here = re.search(r"<<-?\s*(['\"]?)(\w+)\1", line)
-        if here and not quote:
-            ends = here[2]
+        if line.lstrip().startswith("#") and not line.startswith("#!"):
+            yield number, line.strip()
 
 
 def blocks(path, text):

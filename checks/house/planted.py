@@ -152,7 +152,7 @@ PLAIN = [
     (TOOL, '"It is "\n    "lit', '"It is",\n    "told'),
     (PAGE, "One burns.", f"{MANY}. {MANY}.\n\n```c\nis told {MOST} {MOST}\n```\n"),
     (PAGE, "red", "x" * 300),
-    ("tools/lamp.sh", None, "#!/bin/sh\necho '\n# is told\n'\n"),
+    ("tools/lamp.sh", None, "#!/bin/sh\necho 1 # is told\n"),
     ("tools/lamp.py", None, 'LIT = "# is told"\n'),
     (LAMP, "-> bool", "-> bool\n        requires { lit }"),
     ("crates/high/src/lib.rt", "{}", "{\n    Lamp.light();\n}"),

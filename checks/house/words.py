@@ -133,10 +133,10 @@ def without_spans(text):
 
 
 def of_phrases(path, line, plain, phrases):
-    lower = plain.lower()
+    said = " ".join(plain.lower().split())
     for pattern, phrase, better in phrases:
-        # the first word is found faster
-        for it in pattern.finditer(plain) if phrase.split()[0].lower() in lower else ():
+        # the plain text is found faster
+        for it in pattern.finditer(plain) if phrase in said else ():
             at = line + plain.count("\n", 0, it.start())
             yield Finding("phrase", path, at, phrase, f"'{phrase}': write {better}")
 
@@ -147,7 +147,7 @@ def read_phrases(text):
     for _, line in listed(text):
         phrase, _, better = line.partition(": ")
         words = r"\s+".join(re.escape(word) for word in phrase.split())
-        found.append((re.compile(rf"(?<![\w-]){words}(?![\w-])", re.I), phrase, better))
+        found.append((re.compile(rf"(?<![\w-]){words}(?![\w-])", re.I), phrase.lower(), better))
     return found
 
 

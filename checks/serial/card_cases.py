@@ -296,7 +296,7 @@ def is_not_read():
     with Far("--no-echo", "--baud", "1000000", "--plan", "n" * 100000) as far:
         near, other = far.opened()
         play(other, "< 3B00 > 00CA5F2000", card=False)
-        told = far.program.first_fault(15)
+        told = far.program.first_fault(60)
         near.close()
         time.sleep(0.3)
         far.plays("< 3B00 " + ASK_WORDS)

@@ -130,11 +130,16 @@ class Other:
 
 def play(other, dialogue, card):
     """Plays one end of a dialogue, that of the card or of the terminal. Its words are `<` and the
-    card's bytes, `>` and the terminal's, and `~` and seconds of a pause."""
+    card's bytes, `>` and the terminal's, and `~` and seconds of a pause. This end also sends the
+    bytes behind `!`, with wrong parity, and those behind `#`, as they are."""
     words = dialogue.split()
     for sign, word in zip(words[::2], words[1::2]):
         if sign == "~":
             time.sleep(float(word))
+        elif sign == "!":
+            other.sends_marked(word)
+        elif sign == "#":
+            other.line.write(bytes.fromhex(word))
         elif (sign == "<") == card:
             other.send(word)
         else:

@@ -68,16 +68,11 @@ class Tty:
 
 
 class Marking(Other):
-    """The other end of a tty. It writes FF twice, and FF 00 before a byte with wrong parity. With
-    `marks` all bytes have wrong parity; `sends_marked` sends such bytes."""
-
-    def __init__(self, line, echo=True, inverse=False):
-        super().__init__(line, echo, inverse)
-        self.marks = False
+    """The other end of a tty. It writes FF twice, and FF 00 before a byte with wrong parity."""
 
     def send(self, digits):
         for byte in self.raw(bytes.fromhex(digits)):
-            self.put(byte, self.marks)
+            self.put(byte, False)
 
     def put(self, byte, is_marked):
         self.sent_at = time.monotonic()
@@ -259,101 +254,45 @@ def refusals():
 def inverse_odd():
     """In the inverse convention the tty has odd parity from the end of the answer on. Until then
     each character of the card has another parity than the setting."""
-    def play_it(other):
-        other.marks = True
-        other.send("3F02FF00")
-        other.marks = False
-        play(other, SHORT_WORDS + DONE, card=True)
-
-    reset = [EVEN, *RESET]
-    terminal("", [*reset, ODD, *END], play_it=play_it, inverse=True)
-    terminal("", [*reset, ODD, *END], inverse=True, refuses="odd", output="",
-             play_it=lambda other: other.sends_marked("3F00"),
+    noted = [EVEN, *RESET, ODD, *END]
+    terminal(f"! 3F02FF00 {SHORT_WORDS}{DONE}", noted, inverse=True)
+    terminal("! 3F00", noted, inverse=True, refuses="odd", output="",
              fault="the tty does not take 8 bits, odd parity and 2 stop bits\n")
 
 
 def parities():
-    """Characters with wrong parity."""
-    reset = [EVEN, *RESET]
-
-    def then_marked(dialogue, digits):
-        def play_it(other):
-            play(other, dialogue, card=True)
-            other.sends_marked(digits)
-        return play_it
-
-    for title, dialogue, digits, inverse, noted, fault in (
-        ("of TS", "", "3B", False, RESET, PARITY),
-        ("of TS, inverse", "< 3F", "", True, RESET, PARITY),
-        ("of T0", "< 3B", "00", False, RESET, PARITY),
-        ("of a status", "< 3B00 " + SHORT_WORDS, "90", False, [EVEN], "operation 1: " + PARITY),
-        ("of FF", "< 3B00 " + SHORT_WORDS, "FF", False, [EVEN], "operation 1: " + PARITY),
+    """Characters with wrong parity. The bytes of a late mark are more than 20 ms apart."""
+    reset, begun = [EVEN, *RESET], f"< 3B00 {SHORT_WORDS}"
+    for title, dialogue in (
+        ("of TS", "! 3B"),
+        ("of TS, inverse", "< 3F"),
+        ("of T0", "< 3B ! 00"),
+        ("of a status", begun + "! 90"),
+        ("of FF", begun + "! FF"),
+        ("within a heap, of its second character", begun + "# 90FF0000"),
+        ("by a mark that is late by the last byte", begun + "# FF00 ~ 0.15 # 90 ~ 0.15 # 00"),
+        ("by a mark in a heap that is late by the last byte", begun + "# 90FF00 ~ 0.15 # 00"),
+        ("by a mark that is late by two bytes", begun + "# FF ~ 0.15 # 0090 ~ 0.15 # 00"),
+        ("of T0, inverse", "! 3F < 00"),
     ):
-        yield (f"a wrong parity {title}", lambda of=(dialogue, digits, inverse, noted, fault):
-               terminal("", [*reset, *of[3], *END], of[4], output="", inverse=of[2],
-                        play_it=then_marked(of[0], of[1])))
+        noted, place = ([EVEN], "operation 1: ") if begun in dialogue else (RESET, "")
+        yield (f"a wrong parity {title}", lambda of=(dialogue, noted, place): terminal(
+            of[0], [*reset, *of[1], *END], of[2] + PARITY, output="", inverse="3F" in of[0]))
 
-    # in this heap the first character has right parity, and the second does not
-    def heap_with_mark(other):
-        play(other, "< 3B00 " + SHORT_WORDS, card=True)
-        other.line.write(b"\x90\xff\x00\x00")
-
-    yield ("a wrong parity within a heap", lambda: terminal(
-        "", [*reset, EVEN, *END], "operation 1: " + PARITY, output="", play_it=heap_with_mark))
-
-    # the bytes of a mark are more than 20 ms apart
-    for title, start, parts in (
-        ("the last byte", "< 3B00 " + SHORT_WORDS, (b"\xff\0", b"\x90", b"\0")),
-        ("the last byte, in a heap", "< 3B00 " + SHORT_WORDS, (b"\x90\xff\0", b"\0")),
-        ("two bytes", "< 3B00 " + SHORT_WORDS, (b"\xff", b"\0\x90", b"\0")),
+    first, command = "< 3B8081210323 > 00C101FE3E ~ 0.05 ", ["send", "00B0000000"]
+    opened = first + "< 00E101FE1E > 00000500B0000000B5 ~ 0.05 "
+    for dialogue in (first + "# FF00", first + "# 00E101FE1EFF00", opened + "# 0000026D006FFF00"):
+        yield (f"a mark of a wrong parity that is cut at T=1, {dialogue}", lambda of=dialogue:
+               terminal(of, [*reset, EVEN, *END], "operation 1: too many tries without progress: "
+                        "the card may have carried out the command\n", output="", echo=False,
+                        words=command))
+    for title, dialogue in (
+        ("the first byte", f"{first}! 00 < E101FE1E {opened[15:]}< 0000026D006F"),
+        ("a response", f"{opened}! 00 < 00026D006F > 00810081 ~ 0.05 < 0000026D006F"),
     ):
-        def cut_mark(other, start=start, parts=parts):
-            play(other, start, card=True)
-            for part in parts:
-                other.line.write(part)
-                time.sleep(0.15)
-
-        yield (f"a mark of a wrong parity that is late by {title}", lambda of=cut_mark: terminal(
-            "", [*reset, EVEN, *END], "operation 1: " + PARITY, output="", play_it=of))
-
-    first = "< 3B8081210323 > 00C101FE3E ~ 0.05"
-    whole = first + " < 00E101FE1E > 00000500B0000000B5 ~ 0.05"
-    for start, before in ((first, ""), (first, "00E101FE1E"), (whole, "0000026D006F")):
-        def cut_mark_at_t1(other, start=start, before=before):
-            play(other, start, card=True)
-            other.line.write(bytes.fromhex(before) + b"\xff\0")
-
-        yield (f"a mark of a wrong parity that is cut at T=1, after {before}", lambda of=
-               cut_mark_at_t1: terminal("", [*reset, EVEN, *END], "operation 1: too many tries "
-               "without progress: the card may have carried out the command\n", output="",
-               play_it=of, echo=False, words=["send", "00B0000000"]))
-
-    def marked_at_t1(other):
-        play(other, first, card=True)
-        other.sends_marked("00")
-        other.send("E101FE1E")
-        play(other, whole[15:] + " < 0000026D006F", card=True)
-
-    yield ("a wrong parity of the first byte at T=1", lambda: terminal(
-        "", [*reset, EVEN, *END], output="= 6D00\n", play_it=marked_at_t1, echo=False,
-        words=["-k", "send", "00B0000000"], status=1))
-
-    def marked_response_at_t1(other):
-        play(other, first + " < 00E101FE1E > 00000500B0000000B5 ~ 0.05", card=True)
-        other.sends_marked("00")
-        other.send("00026D006F")
-        play(other, "> 00810081 ~ 0.05 < 0000026D006F", card=True)
-
-    yield ("a wrong parity of a response at T=1", lambda: terminal(
-        "", [*reset, EVEN, *END], output="= 6D00\n", play_it=marked_response_at_t1, echo=False,
-        words=["-k", "send", "00B0000000"], status=1))
-
-    def unmarked_t0(other):
-        other.sends_marked("3F")
-        other.send("00")
-
-    yield ("a wrong parity of T0, inverse", lambda: terminal(
-        "", [*reset, *RESET, *END], PARITY, output="", inverse=True, play_it=unmarked_t0))
+        yield (f"a wrong parity of {title} at T=1", lambda of=dialogue: terminal(
+            of, [*reset, EVEN, *END], output="= 6D00\n", echo=False, words=["-k", *command],
+            status=1))
 
     def marked_echo(other):
         play(other, "< 3B00", card=True)
@@ -523,15 +462,9 @@ def card_resets():
         (["--reset", "dcd"], "dcd dsr", "", "cts dsr"),
         (["--reset", "cts", "--held-by", "off"], "", "cts", "cts dsr dcd"),
     ):
-        if "off" in option:
-            # the card is held in reset when it starts, so the first pulse ends that
-            yield (f"a card that is reset by {' '.join(option)}",
-                   lambda of=(held, released, others), option=option: card(
-                       held_first(*of, ask), option))
-        else:
-            yield (f"a card that is reset by {' '.join(option)}",
-                   lambda of=(held, released, others), option=option: card(play_it(*of), option))
-
+        # with the last the card is held in reset when it starts
+        yield (f"a card that is reset by {' '.join(option)}",
+               lambda of=(held, released, others), option=option: card(play_it(*of), option))
 
     # as long as gt_serial holds it; a busy machine may be late
     def quick(tty, other):
@@ -544,21 +477,6 @@ def card_resets():
 
     yield ("a card that is reset for 50 ms",
            lambda: in_time(lambda: card(quick, ["--reset", "cts"])))
-
-
-def held_first(held, released, others, ask):
-    """A card that is held in reset when it starts."""
-    def session(tty, other):
-        tty.await_note(EVEN)
-        other.take_nothing(0.2)
-        tty.switch(released)
-        play(other, f"< 3B00 {ask} > 00CA", card=False)
-        tty.switch(others)
-        time.sleep(0.3)
-        play(other, "> 5F2000 < 6985 > 00CA5F", card=False)
-        pulse(tty, held, released)
-        play(other, f"< 3B00 {ask}", card=False)
-    return session
 
 
 def card_settings():
@@ -582,23 +500,14 @@ def card_settings():
         def session(tty, other):
             tty.await_note(EVEN)
             pulse(tty, "cts")
-            play(other, "< 3B00 > 00", card=False)
-            second(other)
+            play(other, f"< 3B00 > 00 {second}", card=False)
             other.take_nothing(0.3)
             pulse(tty, "cts")
             play(other, f"< 3B00 {ask}", card=False)
         return session
 
-    def wrong_parity(other):
-        other.sends_marked("CA")
-        other.send("5F2000")
-
-    def cut_mark(other):
-        other.line.write(b"\xff\0")
-        time.sleep(0.15)
-        other.line.write(b"\xca")
-
-    for title, second in (("wrong parity", wrong_parity), ("mark that is late", cut_mark)):
+    for title, second in (("wrong parity", "! CA > 5F2000"),
+                          ("mark that is late", "# FF00 ~ 0.15 # CA")):
         yield (f"a character to a card with a {title}", lambda second=second: card(
             spoilt(second), ["--reset", "cts"], fault=PARITY + GONE))
 

@@ -1,8 +1,7 @@
 """The archive for x86-64: its size, the part that a program takes, and the stack of each function.
-The disassembly is that of objdump."""
+Sizes and the disassembly are those of binutils."""
 
 import re
-import struct
 import subprocess
 import tempfile
 from pathlib import Path
@@ -10,7 +9,6 @@ from pathlib import Path
 TOP = Path(__file__).resolve().parents[2]
 ARCHIVE = TOP / "bindings/lib/x86_64-linux-gnu/libcard_c.a"
 INCLUDE = TOP / "bindings/c/include"
-ALLOCATED = 2  # SHF_ALLOC
 ADDRESS = 8  # the bytes that a call pushes
 FUNCTION = re.compile(r"[0-9a-f]+ <(.*)>:$")
 RELOCATION = re.compile(r"\s+[0-9a-f]+:\s+R_\S+\s+(\S+?)[-+]0x[0-9a-f]+$")
@@ -23,20 +21,12 @@ KEPT = re.compile(r"^ (\.[^\n]*?)\s+0x[0-9a-f]+\s+0x([0-9a-f]+) [^\n]*libcard_c\
 
 
 def size(archive):
-    """The bytes of an archive that are loaded: code and constants."""
-    data = archive.read_bytes()
-    total, at = 0, 8
-    while at < len(data):
-        length = int(data[at + 48 : at + 58])
-        at += 60
-        if data[at : at + 4] == b"\x7fELF":
-            table, = struct.unpack_from("<Q", data, at + 40)
-            each, count = struct.unpack_from("<HH", data, at + 58)
-            for place in range(at + table, at + table + each * count, each):
-                kind, flags, _, _, many = struct.unpack_from("<LQQQQ", data, place + 4)
-                total += many if flags & ALLOCATED and kind != 8 else 0
-        at += length + length % 2
-    return total
+    """The bytes of an archive that are loaded: code and constants, and no data of its own."""
+    said = subprocess.run(["size", "-t", archive], check=True, capture_output=True, text=True)
+    text, data, bss = map(int, said.stdout.splitlines()[-1].split()[:3])
+    if data or bss:
+        raise ValueError(f"{archive} has data of its own")
+    return text
 
 
 def linked(names):

@@ -359,7 +359,7 @@ class Talk:
 LONG_TALK, TALK = Talk(3000), Talk(600)
 # The number of random lines: SESSIONS in the environment, or fewer if words select tests or the
 # first fault ends the run.
-SESSIONS = int(os.environ.get("SESSIONS", 500 if len(sys.argv) == 1 else 40))
+SESSIONS = int(os.environ.get("SESSIONS", 2000 if len(sys.argv) == 1 else 40))
 
 
 FAST = ["--no-echo", "--baud", 1000000, "--slack"]

@@ -37,7 +37,8 @@ is_unit (b ∷ c ∷ d ∷ rest) = false
 -- and of one after `+` the first byte precedes the rest.
 abbrev pub bracket_len : List ℕ → ℕ
 bracket_len rest = if nat_lt (place_of 93 rest) (length rest)
-    && is_stamp false (behind_spaces (take (place_of 93 rest) rest)) then place_of 93 rest + 2 else 0
+    && is_stamp false (behind_spaces (take (place_of 93 rest) rest)) then place_of 93 rest + 2
+    else 0
 
 abbrev pub unit_behind : List ℕ → List ℕ
 unit_behind rest = behind_spaces (drop (place_of 32 rest) rest)

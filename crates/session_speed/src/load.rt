@@ -1,4 +1,4 @@
-//! The operations of the measurement. The session by hand (`bench/`) carries out the same.
+//! The operations of the measurement. The programs of `bench` carry out the same.
 
 /// A data object of the card: its tag, and the size of its value in bytes.
 #[derive(Clone, Copy)]

@@ -9,6 +9,7 @@ use Rattle.apdu_core.specs.StatusWord.{StatusWord, corrects, count}
 use Rattle.t0_core.specs.CardHistory.{Leads}
 use Rattle.t0_core.specs.CardSide.{Stage}
 use Rattle.t0_core.specs.Front.{front_characters}
+use Rattle.t0_core.specs.HistoryLaws.{leads_are_cut}
 use Rattle.t0_core.specs.History.{Event, Item, Whole, Cut_off, RunsOver}
 use Rattle.t0_core.specs.Meaning.{Prepared, Tpdu, tpdu_of}
 use Rattle.t0_core.specs.Plan.{IsCut}
@@ -253,7 +254,8 @@ module _ {S : Type 0} (takes : S → Header → Bool) (Act : S → Did → S →
   through first last events prepared stage none leads = record {
     items = leads.items;
     part = front_characters leads.front;
-    events_are = leads.events_are;
+    are_cut = leads_are_cut (Does takes Act) (after_reset reset) first events last prepared stage
+        leads;
     goes = goes_through leads.items first last None
         (subst (λ l. IsSaid l None) (sym none) tt) leads.runs;
   }

@@ -1,12 +1,11 @@
 -- What an application has been through, by what happened on the line.
-use Rattle.std.specs.Prelude.{◌≡◌, ◌⊎◌, ℕ, length, List, [], ◌∷◌, ◌++◌, Option, Some, None, Bool, true, false}
-use Rattle.std.specs.List.{flat_map}
+use Rattle.std.specs.Prelude.{◌≡◌, ◌⊎◌, ℕ, length, List, [], ◌∷◌, Option, Some, None, Bool, true, false}
 use Rattle.apdu_core.specs.declared.header.Header.{Header}
 use Rattle.apdu_core.specs.HeaderBytes.{ins_is_valid}
 use Rattle.apdu_core.specs.CommandBytes.{Command}
 use Rattle.apdu_core.specs.StatusWord.{StatusWord, corrects, count}
 use Rattle.t0_core.specs.Character.{Character}
-use Rattle.t0_core.specs.History.{Event, Item, Whole, Cut_off, events_of, passed}
+use Rattle.t0_core.specs.History.{AreCutInto, Event, Item, Whole, Cut_off}
 use Rattle.t0_core.specs.Meaning.{Tpdu, tpdu_of}
 use Rattle.t0_core.specs.Plan.{IsCut}
 use Rattle.command_card.specs.Carrying.{Did, Makes, asking, taking}
@@ -74,5 +73,5 @@ pub record IsThrough {S : Type 0} (takes : S → Header → Bool) (Act : S → D
     (reset : S → S) (first : S) (events : List Event) (last : S) : Type 0 where
   pub items : List Item
   pub part : List Character  -- of the TPDU in progress
-  pub events_are : events ≡ flat_map events_of items ++ passed part
+  pub are_cut : AreCutInto events items part
   pub goes : GoesThrough takes Act reset None first items last

@@ -1,6 +1,5 @@
 -- What a history shows, however it is cut, and the state of an end after it.
 use Rattle.std.proofs.Common.{◌≡◌, ℕ, List, [], ◌∷◌, ◌++◌, ◌⊎◌, inl, inr, refl, sym, ap, subst, ◌∙◌}
-use Rattle.std.specs.List.{AllByRecursion}
 use Rattle.apdu_core.specs.declared.header.Header.{Header}
 use Rattle.apdu_core.specs.StatusWord.{StatusWord}
 use Rattle.t0_core.specs.declared.direction.Direction.{Direction}
@@ -8,7 +7,7 @@ use Rattle.t0_core.specs.declared.direction.Direction.TheVariants.{ToCard, FromC
 use Rattle.t0_core.specs.declared.plan.Step.{Step}
 use Rattle.t0_core.specs.Dialogue.{Dialogue}
 use Rattle.t0_core.specs.Meaning.{Tpdu, tpdu_of}
-use Rattle.t0_core.specs.History.{Item, Whole, Cut_off, IsItem, RunsOver, AreAlike, AreAlikeInTurn}
+use Rattle.t0_core.specs.History.{Item, Whole, Cut_off, RunsOver, AreAlike, AreAlikeInTurn}
 use Rattle.object_card.specs.State.{CardState, after_reset}
 use Rattle.object_card.specs.CardMeaning.{Does}
 use Rattle.object_card.specs.DataCard.{StandsFor}
@@ -54,16 +53,6 @@ same_after _ _ _ alike = absurd alike
 pub same_shown : (items others : List Item) → AreAlikeInTurn items others
     → shown_puts items ≡ shown_puts others
 same_shown items others alike = same_after [] items others alike
-
--- A run consists of items.
-pub run_is_of_items : {State : Type 0} (Does : State → ℕ → Tpdu → State → Type 0)
-    (own_reset : State → State) (old new : State) (items : List Item)
-    → RunsOver Does own_reset old items new → AllByRecursion IsItem items
-run_is_of_items Does own_reset old new [] runs = tt
-run_is_of_items Does own_reset old new (Whole d ∷ items) (plan, mid, under, does, rest) =
-    ((plan, under), run_is_of_items Does own_reset mid new items rest)
-run_is_of_items Does own_reset old new (Cut_off part ∷ items) (is_part, rest) =
-    (is_part, run_is_of_items Does own_reset (own_reset old) new items rest)
 
 module _ {State : Type 0} (OwnDoes : State → ℕ → Tpdu → State → Type 0) (own_reset : State → State)
     (state_of : State → CardState) (stands : StandsFor OwnDoes own_reset state_of) where

@@ -1,12 +1,11 @@
 -- The puts that the history of a card's end shows, from its dialogues alone.
-use Rattle.std.specs.Prelude.{◌≡◌, ℕ, List, [], ◌∷◌, ◌++◌, reverse, Option, Some, None, Bool, ◌==◌, ◌&&◌, if◌then◌else◌, take_while, find}
+use Rattle.std.specs.Prelude.{ℕ, List, [], ◌∷◌, ◌++◌, reverse, Option, Some, None, Bool, ◌==◌, ◌&&◌, if◌then◌else◌, take_while, find}
 use Rattle.std.specs.Option.{option_map}
-use Rattle.std.specs.List.{AllByRecursion, flat_map}
+use Rattle.std.specs.List.{flat_map}
 use Rattle.apdu_core.specs.declared.header.Header.{Header}
 use Rattle.apdu_core.specs.StatusWord.{StatusWord}
 use Rattle.t0_core.specs.Meaning.{Tpdu, tpdu_of}
-use Rattle.t0_core.specs.Character.{Character}
-use Rattle.t0_core.specs.History.{Event, Item, Whole, Cut_off, IsItem, IsPart, events_of, passed}
+use Rattle.t0_core.specs.History.{Item, Whole, Cut_off}
 use Rattle.object_card.specs.Tables.{Application, with_object}
 use Rattle.object_card.specs.Refusals.{is_select, is_put, named_tag}
 
@@ -73,10 +72,3 @@ shown_puts items = shown_after [] items
 abbrev pub with_puts : List ShownPut → List Application → List Application
 with_puts [] applications = applications
 with_puts (p ∷ puts) applications = with_puts puts (with_object p.aid p.tag p.value applications)
-
--- the events, cut into items and the part of a dialogue in progress
-pub record AreCutInto (events : List Event) (items : List Item) (part : List Character)
-    : Type 0 where
-  pub are_items : AllByRecursion IsItem items
-  pub is_part : IsPart part
-  pub all_of_them : events ≡ flat_map events_of items ++ passed part

@@ -1,5 +1,6 @@
 -- The history of a card's end: characters on the line, and resets.
 use Rattle.std.specs.Prelude.{◌≡◌, ◌⊎◌, ℕ, ◌<◌, List, [], ◌∷◌, ◌++◌, map}
+use Rattle.std.specs.List.{AllByRecursion, flat_map}
 use Rattle.t0_core.specs.Character.{Character}
 use Rattle.t0_core.specs.Dialogue.{Dialogue, IsDialogue, characters}
 use Rattle.t0_core.specs.Plan.{Course, IsCut, Follows}
@@ -41,6 +42,13 @@ IsPart part = (plan : Course) × IsPartUnder plan part
 abbrev pub IsItem : Item → Type 0
 IsItem (Whole d) = (plan : Course) × IsUnderPlan d plan
 IsItem (Cut_off part) = IsPart part
+
+-- the events, cut into items and the part of a dialogue in progress
+pub record AreCutInto (events : List Event) (items : List Item) (part : List Character)
+    : Type 0 where
+  pub are_items : AllByRecursion IsItem items
+  pub is_part : IsPart part
+  pub all_of_them : events ≡ flat_map events_of items ++ passed part
 
 -- The items are a run of a card's meaning. Each whole dialogue follows some plan and is a step
 -- under its cut. A reset drops the part of a dialogue that it cut off.

@@ -19,6 +19,7 @@ pub mod CardView
 pub mod FrontLaws
 pub mod ProcedureLaws
 pub mod CuttingLaws
+pub mod HistoryLaws
 pub mod DialogueLaws
 pub mod WholeLaws
 pub mod WatchLaws

@@ -4,10 +4,10 @@ ghost use Rattle.std.specs.Prelude.{◌≡◌, ℕ, List};
 ghost use Rattle.std.specs.List.{AllByRecursion};
 ghost use Rattle.t0_core.specs.Character.{Character};
 ghost use Rattle.t0_core.specs.CardSide.{Stage};
-ghost use Rattle.t0_core.specs.History.{Event, Item, IsByteEvent, AreAlikeInTurn};
+ghost use Rattle.t0_core.specs.History.{AreCutInto, Event, Item, IsByteEvent, AreAlikeInTurn};
 ghost use Rattle.t0_core.specs.CardHistory.{Leads};
 ghost use Rattle.object_card.specs.State.{IsFresh};
-ghost use Rattle.object_card.specs.ShownPuts.{AreCutInto, shown_puts, with_puts};
+ghost use Rattle.object_card.specs.ShownPuts.{shown_puts, with_puts};
 
 use crate::DataCard;
 use t0_core::laws::events_have_one_cutting;

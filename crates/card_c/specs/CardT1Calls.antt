@@ -7,8 +7,8 @@ use Rattle.t1_core.specs.declared.applet.Applet.{Ghosts}
 use Rattle.t1_core.specs.declared.card.Reply.{Reply}
 use Rattle.t1_core.specs.declared.pcb.BlockReason.{BlockReason}
 use Rattle.t1_core.specs.BlockBytes.{arrival_of, bytes_of, is_whole}
-use Rattle.t1_core.specs.CardSide.{card_after, card_damaged, card_hears, forgets, replies}
-use Rattle.t1_core.specs.Doing.{Goes, Keeps, Steps}
+use Rattle.t1_core.specs.CardSide.{card_after, card_damaged, card_hears, forgets, replies, request_of}
+use Rattle.t1_core.specs.Doing.{Goes, IsDue, Keeps, Steps}
 use Rattle.object_card.specs.State.{CardState}
 use Rattle.object_card.specs.CardMeaning.{Does}
 use Rattle.object_card.specs.CardView.{CardView}
@@ -84,7 +84,8 @@ SendsReply room n room' n' old code new =
     SendsOf old.reply room n room' n' old code × (new ≡ old)
 
 -- Bytes of the terminal are taken up to the end of its block. With a whole block the end makes its
--- step, and replies. If memory runs out, no command is carried out, and the block is dropped.
+-- step, and replies. If memory runs out at the next field of a command, no command is carried out,
+-- and the block is dropped.
 abbrev pub HearsBytes : List ℕ → ℕ → CardT1Side → ℤ → CardT1Side → Type 0
 HearsBytes bytes n' old code new = (block : List ℕ) × (block ≡ old.block ++ take n' bytes)
     × ((k : ℕ) → k < n' → is_whole (old.block ++ take k bytes) ≡ false)
@@ -94,8 +95,9 @@ HearsBytes bytes n' old code new = (block : List ℕ) × (block ≡ old.block ++
     ⊎ ((reply : Reply) × (is_whole block ≡ true) × (code ≡ gt_sends) × (new.block ≡ [])
     × (new.reply ≡ Some reply)
     × Steps applet (λ m c. card_hears m (arrival_of block) c) old.end reply new.end)
-    ⊎ ((is_whole block ≡ true) × (code ≡ gt_memory) × (new.block ≡ []) × (new.reply ≡ None)
-    × Keeps applet forgets old.end new.end))
+    ⊎ ((is_whole block ≡ true) × IsDue (arrival_of block) old.end
+    × (request_of old.end.at.left ≡ None) × (code ≡ gt_memory) × (new.block ≡ [])
+    × (new.reply ≡ None) × Keeps applet forgets old.end new.end))
 
 -- no valid block arrived, for this reason
 abbrev pub Misses : BlockReason → CardT1Side → ℤ → CardT1Side → Type 0

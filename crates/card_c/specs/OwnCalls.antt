@@ -293,7 +293,7 @@ abbrev pub TellsWanted : Wanted → CommandRecord → CommandRecord → ℤ → 
 TellsWanted wanted.Nothing old new code = (code ≡ gt_state) × (new ≡ old)
 TellsWanted (wanted.Direction h) old new code = (code ≡ gt_ok) × IsRecord h [] 0 new
 TellsWanted (wanted.Response c) old new code = (code ≡ gt_ok)
-    × (length c.content ≤ 255 → IsRecord c.header c.content (unwrap_or c.le 0) new)
+    × IsRecord c.header c.content (unwrap_or c.le 0) new
 
 abbrev pub TellsCommand : CommandRecord → CommandRecord → CardSide → ℤ → Type 0
 TellsCommand old new (Own own) code = (w : Wanted) × IsOwnWanted own w × TellsWanted w old new code

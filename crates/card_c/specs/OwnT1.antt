@@ -1,12 +1,13 @@
 -- What the calls on a card of an own application at T=1 do to it. A refusal changes nothing.
-use Rattle.std.specs.Prelude.{◌≡◌, ◌⊎◌, ⊤, ℕ, ℤ, ◌<◌, zero, suc, ◌&&◌, Bool, true, false, List, [], ◌++◌, take, length, Option, Some, None, MatchOption}
+use Rattle.std.specs.Prelude.{◌≡◌, ◌≢◌, ◌⊎◌, ⊤, ℕ, ℤ, ◌<◌, zero, suc, ◌&&◌, Bool, true, false, List, [], ◌++◌, take, length, Option, Some, None, MatchOption}
 use Rattle.t0_core.specs.CardSide.{EndOf}
 use Rattle.t0_core.specs.CardTpdu.{rests}
 use Rattle.t1_core.specs.declared.applet.Applet.{Ghosts}
 use Rattle.t1_core.specs.declared.card.Reply.{Reply}
 use Rattle.t1_core.specs.declared.pcb.BlockReason.{BlockReason}
-use Rattle.t1_core.specs.BlockBytes.{bytes_of, is_whole}
+use Rattle.t1_core.specs.BlockBytes.{arrival_of, bytes_of, is_whole}
 use Rattle.t1_core.specs.CardSide.{card_after, replies}
+use Rattle.t1_core.specs.Doing.{IsDue}
 use Rattle.t1_core.specs.Patience as patience
 use Rattle.t1_core.specs.Patience.{Asks, Hears, PatientOf, Takes, awaits, command_in}
 use Rattle.command_card.specs.declared.given_applet.GivenApplet.{GivenApplet}
@@ -73,18 +74,21 @@ abbrev pub HasCommand : Option (List ℕ) → List ℕ → Type 0
 HasCommand None bytes = bytes ≡ []
 HasCommand (Some command) bytes = bytes ≡ command
 
--- the end makes its step with the block that waits, if one does
+-- The end makes its step with the block that waits, if one does. There is no reply only if the
+-- block has the next field of a command.
 abbrev pub TakesAgain : OwnT1Side → OwnT1Side → Type 0
 TakesAgain old new = ((awaits old.end ≡ false) × (new ≡ old))
     ⊎ ((awaits old.end ≡ true) × (new.asked.items ≡ [])
     × (new ≡ record old { end = new.end; reply = new.reply; asked = new.asked })
-    × Takes own_applet old.end.kept old.end new.reply new.end)
+    × Takes own_applet old.end.kept old.end new.reply new.end
+    × (new.reply ≡ None → IsDue (arrival_of old.end.kept) old.end.end))
 
--- The code for what waits: a header, or the command. Otherwise memory ran out.
+-- The code for what waits: a header, or the command. Otherwise memory ran out, for the copy of a
+-- command or when it was carried out.
 abbrev pub SendsWaiting : OwnT1Side → ℤ → OwnT1Side → Type 0
 SendsWaiting old code new = ((awaits old.end ≡ false) × (code ≡ gt_done) × (new ≡ old))
     ⊎ ((awaits old.end ≡ true) × (new ≡ record old { asked = new.asked })
-    × (((code ≡ gt_memory) × (new.asked.items ≡ []))
+    × (((code ≡ gt_memory) × (command_in old.end ≢ None) × (new.asked.items ≡ []))
     ⊎ (HasCommand (command_in old.end) new.asked.items
     × (w : Wanted) × IsWantedAtT1 new w
     × MatchOption (wait_code w) (code ≡ gt_memory) (λ waits. code ≡ waits))))
@@ -108,10 +112,13 @@ DropsGiven old new = (end : EndOf OwnCard)
     × IsEndWith (own_end old) (taken_back (own_end old).card) end
     × (new ≡ record old { end = lent end old.end; asked = new.asked }) × (new.asked.items ≡ [])
 
+-- A block of the terminal. Unless a request is in progress, there is no reply only if the block has
+-- the next field of a command.
 abbrev pub HearsOwnBlock : OwnT1Side → OwnT1Side → Type 0
 HearsOwnBlock old new = (mid : OwnT1Side) × DropsGiven old mid × (new.block ≡ [])
     × (new ≡ record mid { end = new.end; block = new.block; reply = new.reply })
     × Hears own_applet old.block mid.end new.reply new.end
+    × (mid.end.asked ≡ None → new.reply ≡ None → IsDue (arrival_of old.block) mid.end.end)
 
 -- Bytes of the terminal are taken up to the end of its block. With a whole block the end makes its
 -- step.

@@ -1,5 +1,5 @@
 -- What the call that sends any one command does to a session. A refusal changes nothing.
-use Rattle.std.specs.Prelude.{◌≡◌, ◌⊎◌, ℕ, ℤ, List, [], Some}
+use Rattle.std.specs.Prelude.{◌≡◌, ◌⊎◌, ℕ, ℤ, List, [], Some, None}
 use Rattle.std.specs.List.{flat_map}
 use Rattle.apdu_core.specs.declared.command.ApduFault.{ApduFault}
 use Rattle.apdu_core.specs.CommandBytes.{Command, IsCommand, command_bytes}
@@ -30,10 +30,12 @@ pub record HasBeenSent (c : Command) (old new : SessionSide) : Type 0 where
   pub gone : HaveGone Does (point old.session.state old.plans.items (beginning old.listens))
       (flat_map dialogues_of units) (point new.session.state left new.heard)
 
--- one command that is agreed with the card; if memory runs out, nothing is sent
+-- One command that is agreed with the card. If memory for its answer runs out, which takes the room
+-- of the last one, nothing is sent.
 abbrev pub SendsAgreed : Command → SessionSide → ℤ → SessionSide → Type 0
 SendsAgreed c old code new =
-    ((code ≡ gt_memory) × IsAsBefore old new) ⊎ ((code ≡ gt_ok) × HasBeenSent c old new)
+    ((code ≡ gt_memory) × (old.answer ≡ None) × IsAsBefore old new)
+    ⊎ ((code ≡ gt_ok) × HasBeenSent c old new)
 
 -- the command that these bytes are
 abbrev pub SendsBytes : List ℕ → CardSide → ℤ → CardSide → Type 0

@@ -97,11 +97,22 @@ pub record IsAsBefore (old new : SessionSide) : Type 0 where
   pub listens_is : new.listens ≡ old.listens
   pub heard_is : new.heard ≡ old.heard
 
+abbrev pub IsPut : Operation → Type 0
+IsPut (Put tag value) = Unit {0}
+IsPut (Select aid) = ⊥
+IsPut (Get tag) = ⊥
+
+-- An operation takes the room of the last answer. It needs memory without one, and a put for the
+-- copy of its value.
+abbrev pub NeedsMemory : Operation → SessionSide → Type 0
+NeedsMemory operation old = (old.answer ≡ None) ⊎ IsPut operation
+
 -- one operation; none while a chain is pending, and none if memory runs out
 abbrev pub Performs : Operation → SessionSide → ℤ → SessionSide → Type 0
 Performs operation old code new =
     ((is_idle old.session.state.pending ≡ false) × (code ≡ gt_busy) × (new ≡ old))
-    ⊎ ((is_idle old.session.state.pending ≡ true) × (code ≡ gt_memory) × IsAsBefore old new)
+    ⊎ ((is_idle old.session.state.pending ≡ true) × (code ≡ gt_memory)
+    × NeedsMemory operation old × IsAsBefore old new)
     ⊎ ((is_idle old.session.state.pending ≡ true) × (code ≡ gt_ok)
     × HasAnswered operation old new)
 

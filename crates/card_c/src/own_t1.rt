@@ -1,5 +1,5 @@
 //! A card of an own application at T=1.
-ghost use Rattle.std.specs.Prelude.{◌≡◌, ⊤, [], OnOk, OnErr, if◌then◌else◌};
+ghost use Rattle.std.specs.Prelude.{◌≡◌, ◌≢◌, ⊤, None, [], OnOk, OnErr, if◌then◌else◌};
 ghost use Rattle.t1_core.specs.declared.pcb.BlockReason.TheVariants as reason;
 ghost use Rattle.t1_core.specs.Patience.{command_in};
 ghost use Rattle.card_c.specs.Handles.{held_by, OnHandle};
@@ -120,7 +120,7 @@ pub(crate) fn wanted_at_t1<'a>(at: &'a OwnT1Side) -> Wanted<'a>
 /// Copies the command that waits, or nothing.
 fn copy_command(end: &PatientCard<GivenApplet>, asked: &mut Vec<u8>) -> Result<(), AllocError>
     ensures copied { OnOk result (HasCommand (command_in end.now) asked.new.items) }
-    ensures failed { OnErr result (asked.new.items ≡ []) }
+    ensures failed { OnErr result ((asked.new.items ≡ []) × (command_in end.now ≢ None)) }
 {
     forget(asked);
     let Some((front, field)) = end.command() else {

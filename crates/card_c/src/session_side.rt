@@ -1,5 +1,5 @@
 //! A session with a card, as a handle holds it.
-ghost use Rattle.std.specs.Prelude.{◌≡◌, [], IfOk, OnErr};
+ghost use Rattle.std.specs.Prelude.{◌≡◌, [], None, IfOk, OnErr};
 ghost use Rattle.card_terminal.specs.ExchangeSide.{response_limit};
 
 use crate::listener::Listener;
@@ -23,7 +23,7 @@ pub struct SessionSide {
 /// else new memory. If memory runs out, returns `AllocError`, and the last answer stays.
 pub fn room_for_next(alloc: Global, answer: &mut Option<HeldAnswer>) -> Result<Gather, AllocError>
     ensures room { IfOk result (λ room. room ≡ record { bytes = []; limit = response_limit }) }
-    ensures stays { OnErr result (answer.new ≡ answer.old) }
+    ensures stays { OnErr result ((answer.old ≡ None) × (answer.new ≡ None)) }
 {
     match answer.take() {
         Some(held) => Ok(held.into_room()),

@@ -1,6 +1,6 @@
-/* c_session: gets and puts of small and large objects through C, the same as crates/session_speed.
- * The first word names the way, and the program prints the time of a character. A number after it
- * is how often `repeat` carries out each operation, for a profiler. The ways:
+/* c_session: gets and puts of small and large objects through C. The first word names the way, and
+ * the program prints the time of a character. A number after it is how often `repeat` carries out
+ * each operation, for a profiler. The ways:
  *
  * - session: a session, which joins both ends.
  * - heard: the same with a listener.

@@ -2,9 +2,9 @@
 
 An edit changes the body of a function, and no contract. So what the prover says of that function
 depends on no other edit in the copy. `rt check --only` proves the changed functions and what they
-call, and names those without a proof. An edit is refused if its function has none and calls none
-without one. If it calls one, it is tried again. The crate itself must be proved: nothing here looks
-at that."""
+call, and names those without a proof. An edit is refused if its function has none, and either an
+open goal of its own or no call of a function without a proof. Otherwise it is tried again. The
+crate itself must be proved: nothing here looks at that."""
 
 import contextlib
 import os
@@ -81,8 +81,10 @@ class Edit:
     def refusal(self, said):
         """Why its function has no proof of its own, or None."""
         for name, why in UNPROVED.findall(said):
-            if "it calls `" not in why and any(is_in(name, it) for it in self.functions):
-                return f"{name} has no proof: {why}"
+            own, calls, _ = why.partition("it calls `")
+            is_own = not calls or "`search` did not prove `" in own
+            if is_own and any(is_in(name, it) for it in self.functions):
+                return f"{name} has no proof: {own}"
         return None
 
 

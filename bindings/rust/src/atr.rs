@@ -1,8 +1,7 @@
 //! Answers to reset (ISO/IEC 7816-3, clause 8, and clause 11 for T=1).
 
-use crate::error::codes;
-use crate::{raw, version};
-use core::fmt;
+use crate::error::{codes, shown};
+use crate::raw;
 use core::time::Duration;
 
 /// The most bytes of an answer to reset.
@@ -46,11 +45,7 @@ codes! {
     }
 }
 
-impl fmt::Display for AtrError {
-    fn fmt(&self, f: &mut fmt::Formatter<'_>) -> fmt::Result {
-        write!(f, "{} at {}", self.reason, self.place)
-    }
-}
+shown! { Display for AtrError: it => "{} at {}", it.reason, it.place }
 
 /// How the line shows the bits of a character (ISO/IEC 7816-3, 8.1).
 #[derive(Clone, Copy, Debug, PartialEq, Eq, Hash)]
@@ -249,13 +244,8 @@ impl<'a> Atr<'a> {
     ///
     /// - [`AtrError`]: the bytes are not an answer to reset; this is their first fault.
     pub fn read(bytes: &'a [u8]) -> Result<Atr<'a>, AtrError> {
-        version::look();
         let (mut told, mut place) = (raw::Atr::default(), 0);
-        // SAFETY: a slice with its length, which is only read; `told` and `place` are apart from it
-        // and from one another.
-        let code = unsafe {
-            raw::galliumtoad_atr_read(bytes.as_ptr(), bytes.len(), &mut told, &mut place)
-        };
+        let code = raw::Library::galliumtoad_atr_read(bytes, &mut told, &mut place);
         if code == raw::OK {
             Ok(Atr::of(&told, bytes))
         } else {

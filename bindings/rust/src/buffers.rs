@@ -1,10 +1,9 @@
 //! Characters of a terminal and of a card, in buffers.
 
 use crate::card::Card;
-use crate::error::{done, told, Error};
+use crate::error::{done, shown, told, Error};
 use crate::own_card::Application;
-use crate::raw::{self, Handle, Held};
-use core::fmt;
+use crate::raw;
 
 /// What an end has handed out into a buffer.
 #[derive(Clone, Copy, Debug, PartialEq, Eq, Hash)]
@@ -39,11 +38,7 @@ pub struct ReceiveError {
     pub error: Error,
 }
 
-impl fmt::Display for ReceiveError {
-    fn fmt(&self, f: &mut fmt::Formatter<'_>) -> fmt::Result {
-        write!(f, "{} at {}", self.error, self.taken)
-    }
-}
+shown! { Display for ReceiveError: it => "{} at {}", it.error, it.taken }
 
 impl<A: Application> Card<A> {
     /// Hands out what the card sends now, as [`turn`](Card::turn) one at a time, as many characters
@@ -57,15 +52,13 @@ impl<A: Application> Card<A> {
     #[inline]
     pub fn send_bytes(&mut self, room: &mut [u8]) -> Result<Sent, Error> {
         let mut count = 0;
-        let code = self.run(|at| {
-            let (left, mut n) = (&mut room[count..], 0);
-            let (to, most) = (left.as_mut_ptr(), left.len());
-            // SAFETY: a card's handle; a slice with its length, and `n`, which are apart.
-            let code = unsafe { raw::galliumtoad_card_send_bytes(at, to, most, &mut n) };
+        let code = self.run(|card| {
+            let mut n = 0;
+            let code = card.galliumtoad_card_send_bytes(&mut room[count..], &mut n);
             count += n;
             code
         })?;
-        Ok(sent(code, count))
+        sent(code, count)
     }
 
     /// Takes characters of the terminal, as many as the card listens to.
@@ -76,39 +69,25 @@ impl<A: Application> Card<A> {
     ///   characters that it has taken. The others were not looked at.
     #[inline]
     pub fn receive_bytes(&mut self, bytes: &[u8]) -> Result<(), ReceiveError> {
-        receive(&self.0, raw::galliumtoad_card_receive_bytes, bytes)
+        let mut taken = 0;
+        let code = self.0.galliumtoad_card_receive_bytes(bytes, &mut taken);
+        received(code, taken)
     }
 }
 
-/// A function of the archive that hands out characters, and one that takes them.
-type Sends = unsafe extern "C" fn(*mut Held, *mut u8, usize, *mut usize) -> i32;
-type Receives = unsafe extern "C" fn(*mut Held, *const u8, usize, *mut usize) -> i32;
-
-/// What an end hands out; the handle is of the function's kind.
-pub(crate) fn send(handle: &Handle, sends: Sends, room: &mut [u8]) -> Result<Sent, Error> {
-    let mut count = 0;
-    // SAFETY: a handle of this crate; a slice with its length, and `count`, which are apart.
-    let code = unsafe { sends(handle.at(), room.as_mut_ptr(), room.len(), &mut count) };
-    Ok(sent(told(code)?, count))
-}
-
-fn sent(code: i32, count: usize) -> Sent {
-    let stop = match code {
+/// What an end has handed out.
+#[inline]
+pub(crate) fn sent(code: i32, count: usize) -> Result<Sent, Error> {
+    let stop = match told(code)? {
         raw::SENDS => Stop::Full,
         raw::DONE => Stop::Done,
         _ => Stop::Listens,
     };
-    Sent { count, stop }
+    Ok(Sent { count, stop })
 }
 
-/// What an end takes; the handle is of the function's kind.
-pub(crate) fn receive(
-    handle: &Handle,
-    receives: Receives,
-    bytes: &[u8],
-) -> Result<(), ReceiveError> {
-    let mut taken = 0;
-    // SAFETY: a handle of this crate; a slice with its length, and `taken`, which are apart.
-    let code = unsafe { receives(handle.at(), bytes.as_ptr(), bytes.len(), &mut taken) };
+/// Whether an end has taken all.
+#[inline]
+pub(crate) fn received(code: i32, taken: usize) -> Result<(), ReceiveError> {
     done(code).map_err(|error| ReceiveError { taken, error })
 }

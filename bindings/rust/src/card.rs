@@ -53,7 +53,7 @@ impl fmt::Debug for Entry {
 /// Builds a card of up to [`APPS_LIMIT`] applications, each with up to [`ENTRIES_LIMIT`] data
 /// objects. Each application gets its objects before the next one is added.
 #[derive(Debug)]
-pub struct CardBuilder(Handle);
+pub struct CardBuilder(Handle<raw::Card>);
 
 /// A card at the line, over T=0 and by whole commands. `Card` is one of data objects: SELECT, GET
 /// DATA, PUT DATA and GET RESPONSE. `Card<A>` is one of your own, see [`OwnCard`](crate::OwnCard).
@@ -89,7 +89,7 @@ pub struct CardBuilder(Handle);
 /// assert_eq!(card.selected(), Some(aid.to_vec()));
 /// # Ok::<(), galliumtoad::Error>(())
 /// ```
-pub struct Card<A = ()>(pub(crate) Handle, pub(crate) Own<A>);
+pub struct Card<A = ()>(pub(crate) Handle<raw::Card>, pub(crate) Own<A>);
 
 impl<A> fmt::Debug for Card<A> {
     fn fmt(&self, f: &mut fmt::Formatter<'_>) -> fmt::Result {
@@ -104,10 +104,9 @@ impl CardBuilder {
     ///
     /// - [`Error::Memory`]: it ran out. There is no builder.
     pub fn new() -> Result<CardBuilder, Error> {
-        let builder = CardBuilder(Handle::empty(raw::galliumtoad_card_free));
-        // SAFETY: a handle that holds nothing.
-        told(unsafe { raw::galliumtoad_card_new(builder.0.at()) })?;
-        Ok(builder)
+        let builder = Handle::<raw::Card>::empty();
+        told(builder.galliumtoad_card_new())?;
+        Ok(CardBuilder(builder))
     }
 
     /// Adds an application without data objects, with an identifier of 5 to 16 bytes.
@@ -121,8 +120,7 @@ impl CardBuilder {
     /// - [`Error::TooManyApps`]: there are [`APPS_LIMIT`].
     /// - [`Error::Memory`]: it ran out.
     pub fn app(&mut self, aid: &[u8]) -> Result<(), Error> {
-        // SAFETY: a card's handle; a slice with its length.
-        done(unsafe { raw::galliumtoad_card_app(self.0.at(), aid.as_ptr(), aid.len()) })
+        done(self.0.galliumtoad_card_app(aid))
     }
 
     /// Adds a data object to the last application. If it has one under this tag, the new value
@@ -143,7 +141,7 @@ impl CardBuilder {
     /// - [`Error::TableFull`]: the tag is new, and the application has [`ENTRIES_LIMIT`].
     /// - [`Error::Memory`]: it ran out.
     pub fn object(&mut self, tag: u32, value: &[u8]) -> Result<(), Error> {
-        self.add(tag, value, false)
+        done(self.0.galliumtoad_card_object(tag, value, false))
     }
 
     /// As [`object`](CardBuilder::object), but the object is locked: no command changes it.
@@ -152,14 +150,7 @@ impl CardBuilder {
     ///
     /// As [`object`](CardBuilder::object).
     pub fn locked(&mut self, tag: u32, value: &[u8]) -> Result<(), Error> {
-        self.add(tag, value, true)
-    }
-
-    fn add(&mut self, tag: u32, value: &[u8], locked: bool) -> Result<(), Error> {
-        // SAFETY: a card's handle; a slice with its length.
-        done(unsafe {
-            raw::galliumtoad_card_object(self.0.at(), tag, value.as_ptr(), value.len(), locked)
-        })
+        done(self.0.galliumtoad_card_object(tag, value, true))
     }
 
     /// Returns the card: nothing is selected, and it listens for a header.
@@ -168,8 +159,7 @@ impl CardBuilder {
     ///
     /// - [`Error::Memory`]: it ran out. The builder is dropped, with all that it has.
     pub fn finish(self) -> Result<Card, Error> {
-        // SAFETY: a card's handle.
-        told(unsafe { raw::galliumtoad_card_finish(self.0.at()) })?;
+        told(self.0.galliumtoad_card_finish())?;
         Ok(Card(self.0, Own::of((), Vec::new())))
     }
 }
@@ -183,8 +173,7 @@ impl<A: Application> Card<A> {
     ///   call its application first. Nothing has changed.
     #[inline]
     pub fn take(&mut self, byte: u8) -> Result<(), Error> {
-        // SAFETY: a card's handle.
-        done(unsafe { raw::galliumtoad_card_take(self.0.at(), byte) })
+        done(self.0.galliumtoad_card_take(byte))
     }
 
     /// Returns what the card does now: [`Turn::Sends`] a character, or [`Turn::Listens`]. A
@@ -198,8 +187,7 @@ impl<A: Application> Card<A> {
     #[inline]
     pub fn turn(&mut self) -> Result<Turn, Error> {
         let mut byte = 0;
-        // SAFETY: a card's handle; `byte` is apart from it.
-        let code = self.run(|at| unsafe { raw::galliumtoad_card_turn(at, &mut byte) })?;
+        let code = self.run(|card| card.galliumtoad_card_turn(&mut byte))?;
         Ok(turned(code, byte))
     }
 
@@ -220,8 +208,7 @@ impl<A: Application> Card<A> {
     /// - [`Error::Plans`]: [`PLANS_LIMIT`] plans wait already.
     /// - [`Error::Memory`]: it ran out.
     pub fn plan(&mut self, steps: &str, cut: u16) -> Result<(), Error> {
-        // SAFETY: a card's handle; a slice with its length.
-        done(unsafe { raw::galliumtoad_card_plan(self.0.at(), steps.as_ptr(), steps.len(), cut) })
+        done(self.0.galliumtoad_card_plan(steps.as_bytes(), cut))
     }
 
     /// Resets the card, at any time: a TPDU in progress is dropped, and nothing is selected or
@@ -231,8 +218,7 @@ impl<A: Application> Card<A> {
     ///
     /// None today.
     pub fn reset(&mut self) -> Result<(), Error> {
-        // SAFETY: a card's handle.
-        done(unsafe { raw::galliumtoad_card_reset(self.0.at()) })?;
+        done(self.0.galliumtoad_card_reset())?;
         self.1.was_reset();
         Ok(())
     }

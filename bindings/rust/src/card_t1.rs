@@ -1,9 +1,9 @@
 //! The card's end of a line at T=1 (ISO/IEC 7816-3, clause 11).
 
 use crate::card::Card;
-use crate::error::{done, told, Error};
+use crate::error::{done, Error};
 use crate::own_card::Application;
-use crate::raw;
+use crate::raw::{self, Handle};
 use crate::t1::Received;
 
 /// A card's end of a line at T=1, of data objects or of an application of your own
@@ -61,14 +61,9 @@ impl<A: Application> CardT1<A> {
     ///   own this error comes from [`block_into`](CardT1::block_into).
     /// - [`Error::State`]: see [`block_into`](CardT1::block_into).
     pub fn receive(&mut self, bytes: &[u8]) -> Result<Received, Error> {
-        let (at, n) = (self.0 .0.at(), bytes.len());
-        let mut taken = 0;
-        // SAFETY: a card's handle; a slice with its length, and `taken`, which are apart.
-        let code = told(unsafe {
-            raw::galliumtoad_card_t1_receive_bytes(at, bytes.as_ptr(), n, &mut taken)
-        })?;
-        let is_whole = code == raw::SENDS;
-        Ok(Received { taken, is_whole })
+        let (card, mut taken) = (&self.0 .0, 0);
+        let code = card.galliumtoad_card_t1_receive_bytes(bytes, &mut taken);
+        Received::of(code, taken)
     }
 
     /// Reports that a block of the terminal stopped for longer than CWT. The received part of the
@@ -78,8 +73,7 @@ impl<A: Application> CardT1<A> {
     ///
     /// - [`Error::State`]: see [`block_into`](CardT1::block_into).
     pub fn missed(&mut self) -> Result<(), Error> {
-        // SAFETY: a card's handle.
-        done(unsafe { raw::galliumtoad_card_t1_missed(self.0 .0.at()) })
+        done(self.0 .0.galliumtoad_card_t1_missed())
     }
 
     /// Reports that a character of the terminal's block had a wrong parity: as
@@ -90,8 +84,7 @@ impl<A: Application> CardT1<A> {
     ///
     /// - [`Error::State`]: see [`block_into`](CardT1::block_into).
     pub fn damaged(&mut self) -> Result<(), Error> {
-        // SAFETY: a card's handle.
-        done(unsafe { raw::galliumtoad_card_t1_damaged(self.0 .0.at()) })
+        done(self.0 .0.galliumtoad_card_t1_damaged())
     }
 
     /// Copies the block to send now to the front of `room`, and returns its length, 4 to
@@ -110,12 +103,9 @@ impl<A: Application> CardT1<A> {
     ///   as does a panic of the application. Until [`reset`](CardT1::reset) begins T=1 again,
     ///   this, [`receive`](CardT1::receive), `missed` and `damaged` are [`Error::State`].
     pub fn block_into(&mut self, room: &mut [u8]) -> Result<Option<usize>, Error> {
-        let n = room.len();
         let mut count = 0;
-        // SAFETY: a card's handle; `room` with its length and `count` are apart.
-        let code = self.0.run(|at| unsafe {
-            raw::galliumtoad_card_t1_send_bytes(at, room.as_mut_ptr(), n, &mut count)
-        })?;
+        let sends = |card: &Handle<_>| card.galliumtoad_card_t1_send_bytes(room, &mut count);
+        let code = self.0.run(sends)?;
         Ok((code != raw::DONE).then_some(count))
     }
 
@@ -128,8 +118,7 @@ impl<A: Application> CardT1<A> {
     /// None today.
     pub fn reset(&mut self) -> Result<(), Error> {
         self.0.reset()?;
-        // SAFETY: a card's handle.
-        done(unsafe { raw::galliumtoad_card_t1_begin(self.0 .0.at()) })
+        done(self.0 .0.galliumtoad_card_t1_begin())
     }
 
     /// Returns the card, to look at its objects and what is selected, or at its application.

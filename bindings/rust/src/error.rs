@@ -1,5 +1,23 @@
 //! Why a call was refused, and the codes of `galliumtoad.h`.
 
+use crate::raw::BUFFER;
+use crate::wiped::room_for;
+use alloc::vec::Vec;
+
+/// Shows a type in one format.
+macro_rules! shown {
+    ($(#[$doc:meta])* $kind:ident for $name:ty: $it:ident => $($format:tt)+) => {
+        $(#[$doc])*
+        impl core::fmt::$kind for $name {
+            fn fmt(&self, f: &mut core::fmt::Formatter<'_>) -> core::fmt::Result {
+                let $it = self;
+                write!(f, $($format)+)
+            }
+        }
+    };
+}
+pub(crate) use shown;
+
 /// Declares the codes of one kind of fault, each with its number and its text in the header.
 macro_rules! codes {
     (
@@ -152,4 +170,18 @@ pub(crate) fn told(code: i32) -> Result<i32, Error> {
 #[inline]
 pub(crate) fn done(code: i32) -> Result<(), Error> {
     told(code).map(|_| ())
+}
+
+/// All that a call copies, in no more memory than it needs, or the fault of the call, or
+/// [`Error::Buffer`] without memory.
+pub(crate) fn all<T: Clone + Default>(
+    mut copies: impl FnMut(&mut [T], &mut usize) -> i32,
+) -> Result<Vec<T>, Error> {
+    let (mut room, mut count) = (Vec::new(), 0);
+    let mut code = copies(&mut room, &mut count);
+    if code == BUFFER {
+        room = room_for(count).ok_or(Error::Buffer)?;
+        code = copies(&mut room, &mut count);
+    }
+    done(code).map(|()| room)
 }

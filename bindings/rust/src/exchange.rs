@@ -1,10 +1,9 @@
 //! A terminal's exchange of one command.
 
-use crate::error::{told, Error};
+use crate::error::{all, shown, told, Error};
 use crate::objects::{find, Object};
-use crate::raw::{self, Handle, Held};
+use crate::raw::{self, Handle};
 use crate::status::{Refused, Status};
-use crate::wiped::room_for;
 use alloc::vec::Vec;
 use core::fmt;
 
@@ -117,11 +116,7 @@ impl Answer {
     }
 }
 
-impl fmt::Debug for Answer {
-    fn fmt(&self, f: &mut fmt::Formatter<'_>) -> fmt::Result {
-        write!(f, "Answer({}, {} bytes)", self.status, self.data.len())
-    }
-}
+shown! { Debug for Answer: it => "Answer({}, {} bytes)", it.status, it.data.len() }
 
 /// An answer whose data were copied into a buffer.
 #[derive(Clone, Copy, Debug, PartialEq, Eq, Hash)]
@@ -133,18 +128,6 @@ pub struct Copied {
     pub count: usize,
 }
 
-/// A function of the archive that hands out a character.
-type Turns = unsafe extern "C" fn(*mut Held, *mut u8) -> i32;
-
-/// Returns what an end does. The handle is of the function's kind.
-#[inline]
-pub(crate) fn turn(handle: &Handle, turns: Turns) -> Result<Turn, Error> {
-    let mut byte = 0;
-    // SAFETY: a handle of this crate; `byte` is apart from it.
-    let code = told(unsafe { turns(handle.at(), &mut byte) })?;
-    Ok(turned(code, byte))
-}
-
 pub(crate) fn turned(code: i32, byte: u8) -> Turn {
     match code {
         raw::SENDS => Turn::Sends(byte),
@@ -153,39 +136,24 @@ pub(crate) fn turned(code: i32, byte: u8) -> Turn {
     }
 }
 
-/// The function of the archive that copies the answer of a handle.
-type Copies = unsafe extern "C" fn(*mut Held, *mut u16, *mut u8, usize, *mut usize) -> i32;
-
-/// The result of `copies` for this handle, which is of its kind, and what it wrote.
-fn copy(handle: &Handle, copies: Copies, room: &mut [u8]) -> (i32, Copied) {
-    let (mut status, mut count) = (0, 0);
-    let (data, n) = (room.as_mut_ptr(), room.len());
-    // SAFETY: a handle that a call by `&` may write to (`Handle`); `status`, `room` with its
-    // length, and `count` are apart from it and from one another.
-    let code = unsafe { copies(handle.at(), &mut status, data, n, &mut count) };
-    let status = Status(status);
-    (code, Copied { status, count })
-}
-
-/// Copies the data of an answer to the front of `room`.
+/// Copies the data of an answer to the front of `room`. `copies` writes status, data and count.
 pub(crate) fn answer_into(
-    handle: &Handle,
-    copies: Copies,
     room: &mut [u8],
+    copies: impl FnOnce(&mut u16, &mut [u8], &mut usize) -> i32,
 ) -> Result<Copied, Error> {
-    let (code, found) = copy(handle, copies, room);
-    told(code).map(|_| found)
+    let (mut status, mut count) = (0, 0);
+    told(copies(&mut status, room, &mut count))?;
+    let status = Status(status);
+    Ok(Copied { status, count })
 }
 
 /// An answer that owns its data, in no more memory than they need.
-pub(crate) fn answer(handle: &Handle, copies: Copies) -> Result<Answer, Error> {
-    let (code, Copied { status, count }) = copy(handle, copies, &mut []);
-    if code != raw::BUFFER {
-        let data = Vec::new();
-        return told(code).map(|_| Answer { status, data });
-    }
-    let mut data = room_for(count).ok_or(Error::Buffer)?;
-    answer_into(handle, copies, &mut data)?;
+pub(crate) fn answer(
+    copies: impl Fn(&mut u16, &mut [u8], &mut usize) -> i32,
+) -> Result<Answer, Error> {
+    let mut status = 0;
+    let data = all(|data, n| copies(&mut status, data, n))?;
+    let status = Status(status);
     Ok(Answer { status, data })
 }
 
@@ -212,7 +180,7 @@ pub(crate) fn answer(handle: &Handle, copies: Copies) -> Result<Answer, Error> {
 /// deadlock, as with `00 A4 04 00 05`: this and the card's turn are [`Turn::Listens`]. Drop the
 /// exchange then, and reset the card.
 #[derive(Debug)]
-pub struct Exchange(pub(crate) Handle);
+pub struct Exchange(pub(crate) Handle<raw::Exchange>);
 
 impl Exchange {
     /// Starts the exchange of a command (ISO/IEC 7816-4, 5.1, short lengths). The bytes are copied.
@@ -238,17 +206,9 @@ impl Exchange {
     ///   There is no exchange.
     /// - Any other: as [`start`](Exchange::start).
     pub fn start_within(command: &[u8], limit: usize) -> Result<Exchange, Error> {
-        let exchange = Exchange(Handle::empty(raw::galliumtoad_exchange_free));
-        // SAFETY: a handle that holds nothing; a slice with its length.
-        told(unsafe {
-            raw::galliumtoad_exchange_start_within(
-                exchange.0.at(),
-                command.as_ptr(),
-                command.len(),
-                limit,
-            )
-        })?;
-        Ok(exchange)
+        let exchange = Handle::<raw::Exchange>::empty();
+        told(exchange.galliumtoad_exchange_start_within(command, limit))?;
+        Ok(Exchange(exchange))
     }
 
     /// Returns whether all data of the command have left the terminal. A card may end a TPDU with
@@ -256,7 +216,6 @@ impl Exchange {
     /// success.
     #[must_use]
     pub fn data_sent(&self) -> DataSent {
-        // SAFETY: an exchange's handle.
-        DataSent::of(unsafe { raw::galliumtoad_exchange_data_sent(self.0.at()) })
+        DataSent::of(self.0.galliumtoad_exchange_data_sent())
     }
 }

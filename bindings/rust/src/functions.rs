@@ -5,7 +5,8 @@ type In = *const u8;
 type Out = *mut u8;
 type Count = *mut usize;
 
-declared! {
+declared! { of Library;
+    fn galliumtoad_version() -> u32;
     fn galliumtoad_objects(
         bytes: In, n: usize, objects: *mut Object, room: usize, count: Count, place: Count
     ) -> i32;
@@ -13,15 +14,17 @@ declared! {
         bytes: In, n: usize, path: *const u32, steps: usize, object: *mut Object, place: Count
     ) -> i32;
     fn galliumtoad_head(tag: u32, length: u16, head: Out, room: usize, len: Count) -> i32;
-
     fn galliumtoad_atr_read(bytes: In, n: usize, atr: *mut Atr, place: Count) -> i32;
     fn galliumtoad_pps_request(
         t: u8, pps1: u16, pps2: u16, pps3: u16, request: Out, room: usize, n: Count
     ) -> i32;
     fn galliumtoad_pps_agreed(request: In, n: usize, response: In, m: usize) -> i32;
+}
 
+declared! { of Exchange;
+    fn galliumtoad_exchange_free(e: At);
     fn galliumtoad_exchange_start_within(e: At, command: In, n: usize, limit: usize) -> i32;
-    fn galliumtoad_exchange_next(e: At, byte: Out) -> i32;
+    fn galliumtoad_exchange_next(e: At, byte: *mut u8) -> i32;
     fn galliumtoad_exchange_take(e: At, byte: u8) -> i32;
     fn galliumtoad_exchange_send_bytes(e: At, bytes: Out, room: usize, n: Count) -> i32;
     fn galliumtoad_exchange_receive_bytes(e: At, bytes: In, n: usize, taken: Count) -> i32;
@@ -29,19 +32,21 @@ declared! {
     fn galliumtoad_exchange_answer(
         e: At, status: *mut u16, data: Out, room: usize, len: Count
     ) -> i32;
-
     fn galliumtoad_exchange_tpdu(e: At, tpdu: Out, room: usize, n: Count, most: Count) -> i32;
     fn galliumtoad_exchange_answered(e: At, answer: In, n: usize) -> i32;
     fn galliumtoad_exchange_apdu(e: At, apdu: Out, room: usize, n: Count, most: Count) -> i32;
     fn galliumtoad_exchange_responded(e: At, response: In, n: usize) -> i32;
+}
 
+declared! { of Terminal;
+    fn galliumtoad_terminal_free(t: At);
     fn galliumtoad_terminal_new_within(t: At, limit: usize) -> i32;
     fn galliumtoad_terminal_reset(t: At) -> i32;
     fn galliumtoad_terminal_select(t: At, aid: In, n: usize) -> i32;
     fn galliumtoad_terminal_get(t: At, tag: u32) -> i32;
     fn galliumtoad_terminal_put(t: At, tag: u32, value: In, n: usize) -> i32;
     fn galliumtoad_terminal_send(t: At, command: In, n: usize) -> i32;
-    fn galliumtoad_terminal_next(t: At, byte: Out) -> i32;
+    fn galliumtoad_terminal_next(t: At, byte: *mut u8) -> i32;
     fn galliumtoad_terminal_take(t: At, byte: u8) -> i32;
     fn galliumtoad_terminal_send_bytes(t: At, bytes: Out, room: usize, n: Count) -> i32;
     fn galliumtoad_terminal_receive_bytes(t: At, bytes: In, n: usize, taken: Count) -> i32;
@@ -53,25 +58,31 @@ declared! {
     fn galliumtoad_terminal_answer(
         t: At, status: *mut u16, data: Out, room: usize, len: Count
     ) -> i32;
+}
 
+declared! { of T1;
+    fn galliumtoad_t1_free(t: At);
     fn galliumtoad_t1_new(
         t: At, edc: u8, ifsc: u8, tries: u8, extensions: u16, limit: usize
     ) -> i32;
     fn galliumtoad_t1_begin(t: At, apdu: In, n: usize) -> i32;
-    fn galliumtoad_t1_send_bytes(t: At, bytes: Out, room: usize, n: Count, waits: Out) -> i32;
+    fn galliumtoad_t1_send_bytes(t: At, bytes: Out, room: usize, n: Count, waits: *mut u8) -> i32;
     fn galliumtoad_t1_receive_bytes(t: At, bytes: In, n: usize, taken: Count) -> i32;
     fn galliumtoad_t1_missed(t: At) -> i32;
     fn galliumtoad_t1_damaged(t: At) -> i32;
     fn galliumtoad_t1_response(t: At, response: Out, room: usize, len: Count) -> i32;
     fn galliumtoad_t1_fault(t: At, cause: *mut i32, outcome: *mut i32) -> i32;
     fn galliumtoad_t1_reset(t: At) -> i32;
+}
 
+declared! { of Card;
+    fn galliumtoad_card_free(c: At);
     fn galliumtoad_card_new(c: At) -> i32;
     fn galliumtoad_card_app(c: At, aid: In, n: usize) -> i32;
     fn galliumtoad_card_object(c: At, tag: u32, value: In, n: usize, locked: bool) -> i32;
     fn galliumtoad_card_finish(c: At) -> i32;
     fn galliumtoad_card_take(c: At, byte: u8) -> i32;
-    fn galliumtoad_card_turn(c: At, byte: Out) -> i32;
+    fn galliumtoad_card_turn(c: At, byte: *mut u8) -> i32;
     fn galliumtoad_card_send_bytes(c: At, bytes: Out, room: usize, n: Count) -> i32;
     fn galliumtoad_card_receive_bytes(c: At, bytes: In, n: usize, taken: Count) -> i32;
     fn galliumtoad_card_reset(c: At) -> i32;
@@ -98,7 +109,10 @@ declared! {
         c: At, app: usize, entry: usize, tag: *mut u32, locked: *mut i32, value: Out, room: usize,
         len: Count
     ) -> i32;
+}
 
+declared! { of Session;
+    fn galliumtoad_session_free(s: At);
     fn galliumtoad_session_start(s: At, c: At) -> i32;
     fn galliumtoad_session_select(s: At, aid: In, n: usize) -> i32;
     fn galliumtoad_session_get(s: At, tag: u32) -> i32;
@@ -119,11 +133,4 @@ declared! {
         len: Count
     ) -> i32;
     fn galliumtoad_session_end(s: At, c: At) -> i32;
-
-    fn galliumtoad_version() -> u32;
-    fn galliumtoad_exchange_free(e: At);
-    fn galliumtoad_terminal_free(t: At);
-    fn galliumtoad_t1_free(t: At);
-    fn galliumtoad_card_free(c: At);
-    fn galliumtoad_session_free(s: At);
 }

@@ -1,8 +1,8 @@
 //! Data objects in bytes: all of them, the one at a path, and the start of one.
 
-use crate::error::codes;
+use crate::error::{codes, shown};
+use crate::raw::{self, Library};
 use crate::wiped::{room_for, wipe};
-use crate::{raw, version};
 use alloc::vec::{self, Vec};
 use core::{fmt, iter, slice};
 
@@ -86,11 +86,7 @@ pub struct Object<'a> {
     pub value: &'a [u8],
 }
 
-impl fmt::Debug for Object<'_> {
-    fn fmt(&self, f: &mut fmt::Formatter<'_>) -> fmt::Result {
-        write!(f, "Object({:X}, {} bytes)", self.tag, self.size)
-    }
-}
+shown! { Debug for Object<'_>: it => "Object({:X}, {} bytes)", it.tag, it.size }
 
 impl<'a> Object<'a> {
     /// The object that the library has found in these bytes.
@@ -152,9 +148,7 @@ impl<'a> Objects<'a> {
         let mut listed = Vec::new();
         let room = listed.try_reserve_exact(count);
         room.map_err(|_| ObjectsError::Memory)?;
-        if count > 0 {
-            list(bytes, &mut told)?;
-        }
+        list(bytes, &mut told)?;
         listed.extend(told.iter().map(|it| Object::of(it, bytes)));
         Ok(Objects(listed.into_iter()))
     }
@@ -174,21 +168,12 @@ impl<'l, 'a> IntoIterator for &'l Objects<'a> {
     }
 }
 
-impl fmt::Debug for Objects<'_> {
-    fn fmt(&self, f: &mut fmt::Formatter<'_>) -> fmt::Result {
-        write!(f, "Objects({} left)", self.len())
-    }
-}
+shown! { Debug for Objects<'_>: it => "Objects({} left)", it.len() }
 
 /// Lists as many objects as there is room for, and returns how many there are.
 fn list(bytes: &[u8], room: &mut [raw::Object]) -> Result<usize, ObjectsError> {
-    version::look();
-    let (mut count, mut place, at, n) = (0, 0, bytes.as_ptr(), bytes.len());
-    let (to, most) = (room.as_mut_ptr(), room.len());
-    // SAFETY: slices with their lengths, which don't overlap, as one is borrowed by `&mut`; `count`
-    // and `place` are apart from them and from one another.
-    let code = unsafe { raw::galliumtoad_objects(at, n, to, most, &mut count, &mut place) };
-    match code {
+    let (mut count, mut place) = (0, 0);
+    match Library::galliumtoad_objects(bytes, room, &mut count, &mut place) {
         raw::OK => Ok(count),
         fault => Err(ObjectsError::of(fault, place)),
     }
@@ -230,13 +215,8 @@ impl iter::FusedIterator for Objects<'_> {}
 /// - [`ObjectsError::Fault`]: the bytes are not a list of objects, wherever the path leads; this is
 ///   their first fault.
 pub fn find<'a>(bytes: &'a [u8], path: &[u32]) -> Result<Option<Object<'a>>, ObjectsError> {
-    version::look();
     let (mut told, mut place) = (raw::Object::default(), 0);
-    let (at, n, tags, steps) = (bytes.as_ptr(), bytes.len(), path.as_ptr(), path.len());
-    // SAFETY: slices with their lengths, which are only read; `told` and `place` are apart from
-    // them and from one another.
-    let code = unsafe { raw::galliumtoad_find(at, n, tags, steps, &mut told, &mut place) };
-    match code {
+    match Library::galliumtoad_find(bytes, path, &mut told, &mut place) {
         raw::OK => Ok(Some(Object::of(&told, bytes))),
         raw::NOT_FOUND => Ok(None),
         raw::ARGUMENT => Err(ObjectsError::NoTag),
@@ -252,9 +232,7 @@ pub fn head(tag: u32, length: u16) -> Option<Vec<u8>> {
 }
 
 fn head_of(tag: u32, length: u16) -> Option<raw::Copied<6>> {
-    version::look();
-    // SAFETY: as for `copied`.
-    raw::copied(|to, room, n| unsafe { raw::galliumtoad_head(tag, length, to, room, n) })
+    raw::copied(|to, n| Library::galliumtoad_head(tag, length, to, n))
 }
 
 /// Writes one data object, with the length in its shortest form. The parts of its value come one

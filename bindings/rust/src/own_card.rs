@@ -1,12 +1,11 @@
 //! A card of an application of your own.
 
 use crate::card::Card;
-use crate::error::{done, told, Error};
-use crate::raw::{self, Handle, Held};
+use crate::error::{done, shown, told, Error};
+use crate::raw::{self, Handle};
 use crate::status::Status;
 use crate::wiped::{room_for, wipe};
 use alloc::vec::Vec;
-use core::fmt;
 use core::mem::{forget, zeroed};
 
 /// The most bytes of the data of a [`Command`].
@@ -31,11 +30,9 @@ pub struct Command<'a> {
     pub le: usize,
 }
 
-impl fmt::Debug for Command<'_> {
-    fn fmt(&self, f: &mut fmt::Formatter<'_>) -> fmt::Result {
-        let (header, n, le) = (self.header, self.data.len(), self.le);
-        write!(f, "Command({header:02X?}, {n} bytes, Le {le})")
-    }
+shown! {
+    Debug for Command<'_>:
+    it => "Command({:02X?}, {} bytes, Le {})", it.header, it.data.len(), it.le
 }
 
 /// The data of a response, up to [`OWN_LIMIT`] bytes, which are wiped once the library has them.
@@ -152,9 +149,8 @@ impl<A: Application> Card<A> {
     /// - [`Error::Memory`]: it ran out. The application is dropped.
     pub fn new(application: A) -> Result<OwnCard<A>, Error> {
         let room = room_for(OWN_LIMIT).ok_or(Error::Memory)?;
-        let handle = Handle::empty(raw::galliumtoad_card_free);
-        // SAFETY: a handle that holds nothing; a slice with its length.
-        told(unsafe { raw::galliumtoad_card_own(handle.at(), [].as_ptr(), 0) })?;
+        let handle = Handle::<raw::Card>::empty();
+        told(handle.galliumtoad_card_own(&[]))?;
         Ok(Card(handle, Own::of(application, room)))
     }
 
@@ -171,8 +167,11 @@ impl<A: Application> Card<A> {
 
     /// Calls a function of the archive until nothing waits for the application.
     #[inline]
-    pub(crate) fn run(&mut self, mut call: impl FnMut(*mut Held) -> i32) -> Result<i32, Error> {
-        let first = told(call(self.0.at()));
+    pub(crate) fn run(
+        &mut self,
+        mut call: impl FnMut(&Handle<raw::Card>) -> i32,
+    ) -> Result<i32, Error> {
+        let first = told(call(&self.0));
         if let Err(Error::WantsData | Error::SendsData) = first {
             self.1.was_reset();
         }
@@ -180,7 +179,7 @@ impl<A: Application> Card<A> {
         let resets = Resets(self);
         while let raw::HEADER | raw::COMMAND = code {
             resets.0.ask(code == raw::HEADER)?;
-            code = match told(call(resets.0 .0.at())) {
+            code = match told(call(&resets.0 .0)) {
                 // at T=1, with too short a room: the block stays
                 Err(Error::Buffer) => raw::BUFFER,
                 code => code?,
@@ -194,22 +193,19 @@ impl<A: Application> Card<A> {
     /// Asks the application about the header or the command that waits.
     fn ask(&mut self, is_header: bool) -> Result<(), Error> {
         // SAFETY: numbers alone, whose bytes may be 0.
-        let (at, mut waits) = (self.0.at(), unsafe { zeroed::<raw::Command>() });
-        // SAFETY: a card's handle; `waits` is apart from it.
-        done(unsafe { raw::galliumtoad_card_command(at, &mut waits) })?;
+        let mut waits = unsafe { zeroed::<raw::Command>() };
+        done(self.0.galliumtoad_card_command(&mut waits))?;
         let (own, header) = (&mut self.1, [waits.cla, waits.ins, waits.p1, waits.p2]);
         if is_header {
             let to_card = own.application.takes_data(header);
-            // SAFETY: a card's handle.
-            return done(unsafe { raw::galliumtoad_card_direction(at, to_card) });
+            return done(self.0.galliumtoad_card_direction(to_card));
         }
         let (data, le) = (&waits.data[..waits.size.into()], waits.le.into());
         let command = Command { header, data, le };
         let Status(word) = own.application.carry_out(command, &mut own.response);
         let data = own.response.room.get(..own.response.count);
         let data = data.ok_or(Error::Argument)?;
-        // SAFETY: a card's handle; a slice with its length.
-        done(unsafe { raw::galliumtoad_card_respond(at, data.as_ptr(), data.len(), word) })?;
+        done(self.0.galliumtoad_card_respond(data, word))?;
         own.is_settled = false;
         own.clear();
         Ok(())
@@ -217,8 +213,7 @@ impl<A: Application> Card<A> {
 
     /// Has the application settle, if the library has.
     fn settle(&mut self) {
-        // SAFETY: a card's handle.
-        if !self.1.is_settled && unsafe { raw::galliumtoad_card_settled(self.0.at()) } == 1 {
+        if !self.1.is_settled && self.0.galliumtoad_card_settled() == 1 {
             self.1.is_settled = true;
             self.1.application.settle();
         }

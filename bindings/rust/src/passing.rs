@@ -1,10 +1,9 @@
 //! The calls that an exchange and an operation of a terminal share: characters, buffers, whole
 //! TPDUs and whole commands, and then the answer.
 
-use crate::buffers::{self, ReceiveError, Sent};
-use crate::error::{done, Error};
-use crate::exchange::{self, Answer, Copied, Exchange, Turn};
-use crate::raw;
+use crate::buffers::{received, sent, ReceiveError, Sent};
+use crate::error::{done, told, Error};
+use crate::exchange::{self, turned, Answer, Copied, Exchange, Turn};
 use crate::terminal::Terminal;
 use crate::whole::{self, Due, Pdu};
 
@@ -28,7 +27,9 @@ macro_rules! passes {
             /// - [`Error::Failed`]: it has failed for good.
             #[inline]
             pub fn turn(&mut self) -> Result<Turn, Error> {
-                exchange::turn(&self.0, raw::$turn)
+                let mut byte = 0;
+                let code = told(self.0.$turn(&mut byte))?;
+                Ok(turned(code, byte))
             }
 
             /// Takes a character of the card. If it completes a status, the next TPDU begins, or it
@@ -46,8 +47,7 @@ macro_rules! passes {
             ///   character it has failed for good. Reset the card.
             #[inline]
             pub fn take(&mut self, byte: u8) -> Result<(), Error> {
-                // SAFETY: a handle of this end's kind.
-                done(unsafe { raw::$take(self.0.at(), byte) })
+                done(self.0.$take(byte))
             }
 
             /// Hands out what the terminal sends now, as [`turn`](Self::turn) one at a time, up to
@@ -59,7 +59,9 @@ macro_rules! passes {
             /// As [`turn`](Self::turn). Nothing is handed out.
             #[inline]
             pub fn send_bytes(&mut self, room: &mut [u8]) -> Result<Sent, Error> {
-                buffers::send(&self.0, raw::$send_bytes, room)
+                let mut count = 0;
+                let code = self.0.$send_bytes(room, &mut count);
+                sent(code, count)
             }
 
             /// Takes characters of the card, as [`take`](Self::take) one at a time, up to the first
@@ -71,7 +73,9 @@ macro_rules! passes {
             ///   [`take`](Self::take).
             #[inline]
             pub fn receive_bytes(&mut self, bytes: &[u8]) -> Result<(), ReceiveError> {
-                buffers::receive(&self.0, raw::$receive_bytes, bytes)
+                let mut taken = 0;
+                let code = self.0.$receive_bytes(bytes, &mut taken);
+                received(code, taken)
             }
 
             /// Returns the next whole TPDU, for a reader that carries whole TPDUs. `None` if one of
@@ -84,7 +88,7 @@ macro_rules! passes {
             ///   Nothing has changed.
             /// - [`Error::Memory`]: it ran out. Nothing has changed.
             pub fn tpdu(&self) -> Result<Option<Pdu>, Error> {
-                whole::pdu(&self.0, raw::$tpdu)
+                whole::pdu(|room| self.tpdu_into(room))
             }
 
             /// As [`tpdu`](Self::tpdu), with the bytes at the front of `room`, and without memory.
@@ -95,7 +99,9 @@ macro_rules! passes {
             /// - [`Error::Buffer`]: `room` is too short. [`TPDU_LIMIT`](crate::TPDU_LIMIT) bytes
             ///   are always enough.
             pub fn tpdu_into(&self, room: &mut [u8]) -> Result<Option<Due>, Error> {
-                whole::due_into(&self.0, raw::$tpdu, room)
+                let (mut count, mut most) = (0, 0);
+                let code = self.0.$tpdu(room, &mut count, &mut most);
+                whole::due(code, count, most)
             }
 
             /// Takes the answer to the TPDU of [`tpdu`](Self::tpdu): data, and then SW1 SW2. It
@@ -113,8 +119,7 @@ macro_rules! passes {
             /// - [`Error::NotAsked`], [`Error::TooMany`]: more data came back than may.
             /// - [`Error::TooLong`], [`Error::Stalled`]: it has failed for good. Reset the card.
             pub fn answered(&mut self, answer: &[u8]) -> Result<(), Error> {
-                // SAFETY: a handle of this end's kind; a slice with its length.
-                done(unsafe { raw::$answered(self.0.at(), answer.as_ptr(), answer.len()) })
+                done(self.0.$answered(answer))
             }
 
             /// Returns the command to send now, for a reader that carries whole commands: see
@@ -133,7 +138,7 @@ macro_rules! passes {
             /// - [`Error::Memory`]: it ran out, also for this level, which takes its memory by the
             ///   first of these calls. Nothing has changed.
             pub fn apdu(&self) -> Result<Option<Pdu>, Error> {
-                whole::pdu(&self.0, raw::$apdu)
+                whole::pdu(|room| self.apdu_into(room))
             }
 
             /// As [`apdu`](Self::apdu), with the bytes at the front of `room`.
@@ -144,7 +149,9 @@ macro_rules! passes {
             ///   are always enough.
             /// - Any other: as [`apdu`](Self::apdu).
             pub fn apdu_into(&self, room: &mut [u8]) -> Result<Option<Due>, Error> {
-                whole::due_into(&self.0, raw::$apdu, room)
+                let (mut count, mut most) = (0, 0);
+                let code = self.0.$apdu(room, &mut count, &mut most);
+                whole::due(code, count, most)
             }
 
             /// Takes the response to the command of [`apdu`](Self::apdu): data, and then SW1 SW2.
@@ -156,8 +163,7 @@ macro_rules! passes {
             /// - [`Error::NotDue`]: [`apdu`](Self::apdu) returns `None`. Nothing has changed.
             /// - Any other: as [`answered`](Self::answered).
             pub fn responded(&mut self, response: &[u8]) -> Result<(), Error> {
-                // SAFETY: a handle of this end's kind; a slice with its length.
-                done(unsafe { raw::$responded(self.0.at(), response.as_ptr(), response.len()) })
+                done(self.0.$responded(response))
             }
 
             /// Returns the answer, the status and the data of the last command. Each further call
@@ -169,7 +175,7 @@ macro_rules! passes {
             ///   operation.
             /// - [`Error::Buffer`]: there is no memory for the data. The answer stays.
             pub fn answer(&self) -> Result<Answer, Error> {
-                exchange::answer(&self.0, raw::$answer)
+                exchange::answer(|status, data, n| self.0.$answer(status, data, n))
             }
 
             /// As [`answer`](Self::answer), with the data at the front of `room`. This takes no
@@ -181,7 +187,7 @@ macro_rules! passes {
             /// - [`Error::Buffer`]: `room` is too short, and unchanged;
             ///   [`RESPONSE_LIMIT`](crate::RESPONSE_LIMIT) bytes are always enough.
             pub fn answer_into(&self, room: &mut [u8]) -> Result<Copied, Error> {
-                exchange::answer_into(&self.0, raw::$answer, room)
+                exchange::answer_into(room, |status, data, n| self.0.$answer(status, data, n))
             }
         }
     };

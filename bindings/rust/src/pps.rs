@@ -2,8 +2,7 @@
 //! 7816-3, clause 9).
 
 use crate::error::codes;
-use crate::raw::{self, copied, Copied};
-use crate::version;
+use crate::raw::{copied, Copied, Library};
 use alloc::vec::Vec;
 
 /// The most bytes of a PPS request or response.
@@ -63,14 +62,10 @@ impl Pps {
         self.bytes().map(|it| it.to_vec())
     }
 
-    fn bytes(&self) -> Option<Copied<PPS_LIMIT>> {
-        version::look();
+    fn bytes(self) -> Option<Copied<PPS_LIMIT>> {
         let number = |byte: Option<u8>| byte.map_or(ABSENT, u16::from);
         let [pps1, pps2, pps3] = [self.pps1, self.pps2, self.pps3].map(number);
-        // SAFETY: as for `copied`.
-        copied(|to, room, n| unsafe {
-            raw::galliumtoad_pps_request(self.t, pps1, pps2, pps3, to, room, n)
-        })
+        copied(|to, n| Library::galliumtoad_pps_request(self.t, pps1, pps2, pps3, to, n))
     }
 
     /// Returns whether a card's response accepts this request (ISO/IEC 7816-3, 9.3). It does if it
@@ -86,15 +81,7 @@ impl Pps {
     /// - Any other: the bytes are not a response. This is their first fault.
     pub fn agreed(&self, response: &[u8]) -> Result<bool, PpsError> {
         let request = self.bytes().ok_or(PpsError::Argument)?;
-        // SAFETY: slices with their lengths, which are only read.
-        let code = unsafe {
-            raw::galliumtoad_pps_agreed(
-                request.as_ptr(),
-                request.len(),
-                response.as_ptr(),
-                response.len(),
-            )
-        };
+        let code = Library::galliumtoad_pps_agreed(&request, response);
         if code < 0 {
             Err(PpsError::of(code))
         } else {

@@ -1,17 +1,20 @@
-//! The archive's functions, as `galliumtoad.h` declares them. A call is right if
+//! The archive's functions, as `galliumtoad.h` declares them, and safe ones over them. A call of
+//! the archive is right if
 //!
 //! - a pointer with a count is that of a slice with its length. Every other one is that of a value
 //!   of the type written here. So none is NULL, and each is aligned;
 //! - what is written to does not overlap with anything else that is handed over;
 //! - a handle holds nothing, or what the function's name says, and no other call has it.
 //!
-//! The last of these holds when a handle's owner is called by `&` or `&mut`, see [`Handle`].
+//! The safe function has slices and borrows in place of pointers, and is called on a [`Handle`] of
+//! its kind.
 
 use crate::version;
 use crate::wiped::wipe;
 use core::cell::UnsafeCell;
 use core::ffi::c_void;
 use core::fmt;
+use core::marker::PhantomData;
 use core::ops::Deref;
 
 /// What C sees of a handle: 16 bytes that only the library reads or writes.
@@ -21,14 +24,19 @@ pub struct Held {
     held: *mut c_void,
 }
 
+/// A kind of handle, and the function that a drop passes one of this kind to.
+pub trait Kind {
+    const FREES: unsafe extern "C" fn(*mut Held);
+}
+
 /// A handle, in a cell, since each function writes to it: it takes out what the handle holds, and
 /// puts it back before it returns. A `&Handle` is enough for a call. A cell is not `Sync`, so no
 /// other thread has one. The archive calls nothing that could call it again, except the three
 /// functions for memory, and these the program's allocator. An allocator must not call this crate
 /// (README, Memory), and writing one is `unsafe`. So no two calls have one handle at once.
-pub struct Handle {
+pub struct Handle<K: Kind> {
     held: UnsafeCell<Held>,
-    frees: unsafe extern "C" fn(*mut Held),
+    kind: PhantomData<K>,
 }
 
 // SAFETY: it is proved for each kind of handle that it may move to another thread. Whatever moves a
@@ -36,37 +44,31 @@ pub struct Handle {
 // is enough, because the archive has only plain reads and writes: no atomics, no thread-locals.
 // The header's lock, thread and atomic are three ways to the same order in C. The functions for
 // memory are those of a Rust allocator, or of `malloc`, or the program's own, which must allow it.
-unsafe impl Send for Handle {}
+unsafe impl<K: Kind> Send for Handle<K> {}
 
-impl Handle {
-    /// Makes a handle that holds nothing, as `GT_INIT` of the header does. A drop passes it to
-    /// `frees`, the function for handles of its kind.
+impl<K: Kind> Handle<K> {
+    /// Makes a handle that holds nothing, as `GT_INIT` of the header does.
     ///
     /// # Panics
     ///
     /// If the library does not fit this crate: see `version_fits`.
-    pub fn empty(frees: unsafe extern "C" fn(*mut Held)) -> Handle {
+    pub fn empty() -> Handle<K> {
         version::look();
         let (live, held) = (false, core::ptr::null_mut());
         let held = UnsafeCell::new(Held { live, held });
-        Handle { held, frees }
-    }
-
-    /// Its address, for a call that may write to it.
-    #[inline]
-    pub fn at(&self) -> *mut Held {
-        self.held.get()
+        let kind = PhantomData;
+        Handle { held, kind }
     }
 }
 
-impl Drop for Handle {
+impl<K: Kind> Drop for Handle<K> {
     fn drop(&mut self) {
         // SAFETY: a handle of the function's kind, which is not used again.
-        unsafe { (self.frees)(self.at()) }
+        unsafe { K::FREES(self.held.get()) }
     }
 }
 
-impl fmt::Debug for Handle {
+impl<K: Kind> fmt::Debug for Handle<K> {
     fn fmt(&self, f: &mut fmt::Formatter<'_>) -> fmt::Result {
         f.write_str("Handle")
     }
@@ -182,12 +184,105 @@ pub const NOT_CARRIED_OUT: i32 = 0;
 /// number means that it is unknown whether it has.
 pub const IN_PART: i32 = 2;
 
-/// Declares functions of the archive.
+/// Declares functions of the archive, and the safe ones. Those for a kind of handle are methods of
+/// such a handle, except the first, which frees it. Those without a handle look at the library's
+/// version before, except the first, which returns it.
 macro_rules! declared {
-    ($(fn $name:ident($($arg:ident: $of:ty),*) $(-> $back:ty)?;)*) => {
+    (
+        of Library; fn $version:ident() -> u32;
+        $(fn $name:ident($($params:tt)*) -> i32;)*
+    ) => {
         extern "C" {
-            $(pub fn $name($($arg: $of),*) $(-> $back)?;)*
+            fn $version() -> u32;
+            $(fn $name($($params)*) -> i32;)*
         }
+
+        /// The functions without a handle.
+        pub enum Library {}
+
+        impl Library {
+            pub fn $version() -> u32 {
+                // SAFETY: nothing is handed over.
+                unsafe { $version() }
+            }
+
+            $(safe! { [function $name] [] [] $($params)* })*
+        }
+    };
+    (
+        of $kind:ident; fn $free:ident($c:ident: At);
+        $(fn $name:ident($e:ident: At $(, $($params:tt)*)?) -> i32;)*
+    ) => {
+        extern "C" {
+            fn $free($c: At);
+            $(fn $name($e: At $(, $($params)*)?) -> i32;)*
+        }
+
+        /// A kind of handle.
+        pub enum $kind {}
+
+        impl Kind for $kind {
+            const FREES: unsafe extern "C" fn(*mut Held) = $free;
+        }
+
+        impl Handle<$kind> {
+            $(safe! { [method $name] [] [] $($($params)*)? })*
+        }
+    };
+}
+
+/// Makes the safe form of a function: its kind and name, the parameters and the arguments so far,
+/// and the parameters in C that are left.
+macro_rules! safe {
+    ([method $name:ident] [$($param:tt)*] [$($passed:expr,)*]) => {
+        #[inline]
+        pub fn $name(&self, $($param)*) -> i32 {
+            // SAFETY: slices with their lengths, and borrows, so what is written to is apart; a
+            // handle of the function's kind, which a call by `&` may write to (`Handle`).
+            unsafe { $name(self.held.get(), $($passed),*) }
+        }
+    };
+    ([function $name:ident] [$($param:tt)*] [$($passed:expr,)*]) => {
+        pub fn $name($($param)*) -> i32 {
+            version::look();
+            // SAFETY: slices with their lengths, and borrows, so what is written to is apart.
+            unsafe { $name($($passed),*) }
+        }
+    };
+    ($it:tt $made:tt $passed:tt $a:ident: In, $n:ident: usize $(, $($left:tt)*)?) => {
+        safe! { $it $made $passed $a: *const u8, $n: usize $(, $($left)*)? }
+    };
+    ($it:tt $made:tt $passed:tt $a:ident: Out, $n:ident: usize $(, $($left:tt)*)?) => {
+        safe! { $it $made $passed $a: *mut u8, $n: usize $(, $($left)*)? }
+    };
+    (
+        $it:tt [$($made:tt)*] [$($passed:tt)*]
+        $a:ident: *const $of:ident, $n:ident: usize $(, $($left:tt)*)?
+    ) => {
+        safe! {
+            $it [$($made)* $a: &[$of],] [$($passed)* $a.as_ptr(), $a.len(),] $($($left)*)?
+        }
+    };
+    (
+        $it:tt [$($made:tt)*] [$($passed:tt)*]
+        $a:ident: *mut $of:ident, $n:ident: usize $(, $($left:tt)*)?
+    ) => {
+        safe! {
+            $it [$($made)* $a: &mut [$of],] [$($passed)* $a.as_mut_ptr(), $a.len(),]
+            $($($left)*)?
+        }
+    };
+    ($it:tt [$($made:tt)*] [$($passed:tt)*] $a:ident: At $(, $($left:tt)*)?) => {
+        safe! { $it [$($made)* $a: &Handle<Card>,] [$($passed)* $a.held.get(),] $($($left)*)? }
+    };
+    ($it:tt [$($made:tt)*] [$($passed:tt)*] $a:ident: Count $(, $($left:tt)*)?) => {
+        safe! { $it [$($made)* $a: &mut usize,] [$($passed)* $a,] $($($left)*)? }
+    };
+    ($it:tt [$($made:tt)*] [$($passed:tt)*] $a:ident: *mut $of:ident $(, $($left:tt)*)?) => {
+        safe! { $it [$($made)* $a: &mut $of,] [$($passed)* $a,] $($($left)*)? }
+    };
+    ($it:tt [$($made:tt)*] [$($passed:tt)*] $a:ident: $of:ident $(, $($left:tt)*)?) => {
+        safe! { $it [$($made)* $a: $of,] [$($passed)* $a,] $($($left)*)? }
     };
 }
 
@@ -204,11 +299,11 @@ impl<const N: usize> Deref for Copied<N> {
     }
 }
 
-/// The bytes that a call copies to an array: it gets the array, its length, and a count apart.
+/// The bytes that a call copies to an array.
 pub fn copied<const N: usize>(
-    copies: impl FnOnce(*mut u8, usize, &mut usize) -> i32,
+    copies: impl FnOnce(&mut [u8], &mut usize) -> i32,
 ) -> Option<Copied<N>> {
     let (mut bytes, mut n) = ([0; N], 0);
-    let code = copies(bytes.as_mut_ptr(), N, &mut n);
+    let code = copies(&mut bytes, &mut n);
     (code == OK).then_some(Copied(bytes, n))
 }

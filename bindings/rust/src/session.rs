@@ -1,13 +1,13 @@
 //! A terminal and a card, joined by a line.
 
 use crate::card::Card;
-use crate::error::{done, told, Error};
+use crate::error::{all, done, told, Error};
 use crate::exchange::{self, Answer, Copied};
 use crate::own_card::Own;
 use crate::raw::{self, Handle};
 use crate::status::Status;
-use crate::terminal::{calls, Operation};
-use crate::wiped::{room_for, wipe_from};
+use crate::terminal::Operation;
+use crate::wiped::wipe_from;
 use alloc::vec::Vec;
 use core::mem::size_of_val;
 
@@ -28,23 +28,10 @@ pub enum End {
 /// or `6A84`.
 ///
 /// ```
-/// use galliumtoad::{CardBuilder, Session};
-///
-/// let aid = [0xA0, 0x00, 0x00, 0x00, 0x03, 0x10, 0x10];
-/// let mut builder = CardBuilder::new()?;
-/// builder.app(&aid)?;
-/// builder.object(0x5F20, b"JOE")?;
-/// let mut session = Session::start(builder.finish()?)?;
-///
-/// session.select(&aid)?;
-/// assert!(session.put(0x5F20, b"ANN")?.is_ok());
-/// let answer = session.get(0x5F20)?;
-/// assert!(answer.status.is_ok());
-/// assert_eq!(answer.data, b"\x5F\x20\x03ANN");
-/// # Ok::<(), galliumtoad::Error>(())
+#[doc = include_str!("../examples/session.rs")]
 /// ```
 #[derive(Debug)]
-pub struct Session(pub(crate) Handle);
+pub struct Session(pub(crate) Handle<raw::Session>);
 
 impl Session {
     /// Takes a card, and resets it: nothing is selected. This takes no memory. Data objects stay,
@@ -55,10 +42,9 @@ impl Session {
     /// - [`Error::State`]: the card is one of your own, of the application `()`. It is dropped.
     #[allow(clippy::needless_pass_by_value)] // the session owns it from now on
     pub fn start(card: Card) -> Result<Session, Error> {
-        let session = Session(Handle::empty(raw::galliumtoad_session_free));
-        // SAFETY: a handle that holds nothing, and a card's, which are apart.
-        told(unsafe { raw::galliumtoad_session_start(session.0.at(), card.0.at()) })?;
-        Ok(session)
+        let session = Handle::<raw::Session>::empty();
+        told(session.galliumtoad_session_start(&card.0))?;
+        Ok(Session(session))
     }
 
     /// Whether an operation other than [`send`](Session::send) can start: no chain is pending. The
@@ -69,8 +55,7 @@ impl Session {
     ///
     /// None today.
     pub fn is_idle(&self) -> Result<bool, Error> {
-        // SAFETY: a session's handle, which a call by `&` may write to (`Handle`).
-        Ok(told(unsafe { raw::galliumtoad_session_idle(self.0.at()) })? == 1)
+        told(self.0.galliumtoad_session_idle()).map(|it| it == 1)
     }
 
     /// Plans how the card answers one more TPDU of the next call that is carried out (select, get,
@@ -88,10 +73,7 @@ impl Session {
     ///
     /// As [`Card::plan`].
     pub fn plan(&mut self, steps: &str, cut: u16) -> Result<(), Error> {
-        // SAFETY: a session's handle; a slice with its length.
-        done(unsafe {
-            raw::galliumtoad_session_plan(self.0.at(), steps.as_ptr(), steps.len(), cut)
-        })
+        done(self.0.galliumtoad_session_plan(steps.as_bytes(), cut))
     }
 
     /// Carries out an operation, as [`select`](Session::select), [`get`](Session::get),
@@ -101,10 +83,12 @@ impl Session {
     ///
     /// As those.
     pub fn run(&mut self, operation: Operation<'_>) -> Result<Answer, Error> {
-        calls! { operation, self.0 =>
-            galliumtoad_session_select, galliumtoad_session_get,
-            galliumtoad_session_put, galliumtoad_session_send
-        }?;
+        done(match operation {
+            Operation::Select(aid) => self.0.galliumtoad_session_select(aid),
+            Operation::Get(tag) => self.0.galliumtoad_session_get(tag),
+            Operation::Put(tag, value) => self.0.galliumtoad_session_put(tag, value),
+            Operation::Send(command) => self.0.galliumtoad_session_send(command),
+        })?;
         self.answer()
     }
 
@@ -173,7 +157,7 @@ impl Session {
     /// - [`Error::NotFound`]: there is no answer yet.
     /// - [`Error::Buffer`]: there is no memory for the data. The answer stays.
     pub fn answer(&self) -> Result<Answer, Error> {
-        exchange::answer(&self.0, raw::galliumtoad_session_answer)
+        exchange::answer(|status, data, n| self.0.galliumtoad_session_answer(status, data, n))
     }
 
     /// As [`Exchange::answer_into`](crate::Exchange::answer_into), of the last answer.
@@ -183,7 +167,9 @@ impl Session {
     /// - [`Error::NotFound`]: there is no answer yet. `room` is unchanged.
     /// - [`Error::Buffer`]: there are more data than `room` has place for. `room` is unchanged.
     pub fn answer_into(&self, room: &mut [u8]) -> Result<Copied, Error> {
-        exchange::answer_into(&self.0, raw::galliumtoad_session_answer, room)
+        exchange::answer_into(room, |status, data, n| {
+            self.0.galliumtoad_session_answer(status, data, n)
+        })
     }
 
     /// Notes the characters of each operation from now on, for [`Session::heard`]. Characters noted
@@ -193,8 +179,7 @@ impl Session {
     ///
     /// None today.
     pub fn listen(&mut self) -> Result<(), Error> {
-        // SAFETY: a session's handle.
-        done(unsafe { raw::galliumtoad_session_listen(self.0.at()) })
+        done(self.0.galliumtoad_session_listen())
     }
 
     /// Returns the characters of the last operation that was carried out, each with the end that
@@ -207,34 +192,19 @@ impl Session {
     /// - [`Error::Memory`]: memory ran out in the operation, so not all were noted.
     /// - [`Error::Buffer`]: there is no memory for the list. It stays.
     pub fn heard(&self) -> Result<Vec<(End, u8)>, Error> {
-        let mut line: Vec<raw::Character> = room_for(self.hear(&mut [])?).ok_or(Error::Buffer)?;
+        let mut line = all(|line, n| self.0.galliumtoad_session_heard(line, n))?;
         let mut heard = Vec::new();
         let room = heard.try_reserve_exact(line.len());
-        room.map_err(|_| Error::Buffer)?;
-        if !line.is_empty() {
-            self.hear(&mut line)?;
-        }
         let from = |it: &raw::Character| match it.from {
             raw::TERMINAL => End::Terminal,
             _ => End::Card,
         };
-        heard.extend(line.iter().map(|it| (from(it), it.byte)));
+        if room.is_ok() {
+            heard.extend(line.iter().map(|it| (from(it), it.byte)));
+        }
         // SAFETY: all of a list that is borrowed by `&mut`, whose numbers may be zeros.
         unsafe { wipe_from(line.as_mut_ptr().cast(), size_of_val(&*line)) };
-        Ok(heard)
-    }
-
-    /// Fills the room if it is enough, and returns how many characters there are.
-    fn hear(&self, room: &mut [raw::Character]) -> Result<usize, Error> {
-        let mut count = 0;
-        // SAFETY: as in `answer`; `room` with its length, and `count`.
-        let code = unsafe {
-            raw::galliumtoad_session_heard(self.0.at(), room.as_mut_ptr(), room.len(), &mut count)
-        };
-        match code {
-            raw::OK | raw::BUFFER => Ok(count),
-            fault => Err(Error::of(fault)),
-        }
+        room.map(|()| heard).map_err(|_| Error::Buffer)
     }
 
     /// Resets the card: nothing is selected or pending. Data objects, plans, the last answer and
@@ -244,8 +214,7 @@ impl Session {
     ///
     /// None today.
     pub fn reset(&mut self) -> Result<(), Error> {
-        // SAFETY: a session's handle.
-        done(unsafe { raw::galliumtoad_session_reset(self.0.at()) })
+        done(self.0.galliumtoad_session_reset())
     }
 
     /// Returns the card, reset: a next session selects again. Data objects stay. Plans that are
@@ -255,12 +224,8 @@ impl Session {
     ///
     /// None today.
     pub fn end(self) -> Result<Card, Error> {
-        let card = Card(
-            Handle::empty(raw::galliumtoad_card_free),
-            Own::of((), Vec::new()),
-        );
-        // SAFETY: a session's handle, and one that holds nothing, which are apart.
-        told(unsafe { raw::galliumtoad_session_end(self.0.at(), card.0.at()) })?;
-        Ok(card)
+        let card = Handle::empty();
+        told(self.0.galliumtoad_session_end(&card))?;
+        Ok(Card(card, Own::of((), Vec::new())))
     }
 }

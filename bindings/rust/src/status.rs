@@ -1,5 +1,6 @@
 //! A card's status word (ISO/IEC 7816-4, 5.1.3).
 
+use crate::error::shown;
 use crate::meanings::MEANINGS;
 use alloc::borrow::ToOwned;
 use alloc::format;
@@ -84,11 +85,9 @@ impl Status {
     }
 }
 
-/// Four digits, as `9000`.
-impl fmt::Display for Status {
-    fn fmt(&self, f: &mut fmt::Formatter<'_>) -> fmt::Result {
-        write!(f, "{:04X}", self.0)
-    }
+shown! {
+    /// Four digits, as `9000`.
+    Display for Status: it => "{:04X}", it.0
 }
 
 impl fmt::UpperHex for Status {
@@ -97,11 +96,7 @@ impl fmt::UpperHex for Status {
     }
 }
 
-impl fmt::Debug for Status {
-    fn fmt(&self, f: &mut fmt::Formatter<'_>) -> fmt::Result {
-        write!(f, "Status({self})")
-    }
-}
+shown! { Debug for Status: it => "Status({it})" }
 
 /// Compares a status with a number: `answer.status == 0x9000`.
 impl PartialEq<u16> for Status {
@@ -124,8 +119,4 @@ pub struct Refused {
     pub status: Status,
 }
 
-impl fmt::Display for Refused {
-    fn fmt(&self, f: &mut fmt::Formatter<'_>) -> fmt::Result {
-        write!(f, "{}: {}", self.status, self.status.text())
-    }
-}
+shown! { Display for Refused: it => "{}: {}", it.status, it.status.text() }

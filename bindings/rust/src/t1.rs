@@ -117,6 +117,14 @@ pub struct Received {
     pub is_whole: bool,
 }
 
+impl Received {
+    /// What an end has taken, by the code of its call.
+    pub(crate) fn of(code: i32, taken: usize) -> Result<Received, Error> {
+        let is_whole = told(code)? == raw::SENDS;
+        Ok(Received { taken, is_whole })
+    }
+}
+
 /// A terminal's end of a line at T=1, which carries whole commands over a line that may damage and
 /// lose bytes. The times of the line are the caller's to keep: [`Atr::waits`](crate::Atr::waits)
 /// has them, and [`T1Line`](crate::T1Line) keeps them. [`CardT1`](crate::CardT1) has an example.
@@ -124,7 +132,7 @@ pub struct Received {
 /// Before the first command it sends S(IFS request) with 254. It takes fields of 254 bytes whether
 /// the card answers that or not (profile).
 #[derive(Debug)]
-pub struct T1(Handle);
+pub struct T1(Handle<raw::T1>);
 
 impl T1 {
     /// Makes an end as after a reset of the card, whose answer to reset has this EDC and IFSC. Only
@@ -137,13 +145,10 @@ impl T1 {
     /// - [`Error::Argument`]: `edc` is not [`Edc::Lrc`], or `ifsc` is 0 or 255.
     /// - [`Error::Memory`]: it ran out.
     pub fn new(edc: Edc, ifsc: u8, limits: T1Limits) -> Result<T1, Error> {
-        let t1 = T1(Handle::empty(raw::galliumtoad_t1_free));
+        let t1 = Handle::<raw::T1>::empty();
         let (edc, tries, extensions) = (edc as u8, limits.tries, limits.extensions);
-        // SAFETY: an empty handle.
-        done(unsafe {
-            raw::galliumtoad_t1_new(t1.0.at(), edc, ifsc, tries, extensions, limits.response)
-        })?;
-        Ok(t1)
+        told(t1.galliumtoad_t1_new(edc, ifsc, tries, extensions, limits.response))?;
+        Ok(T1(t1))
     }
 
     /// Starts a command of any length, which is copied, and drops the last response.
@@ -155,8 +160,7 @@ impl T1 {
     /// - [`Error::State`]: a command is in progress, or the end gave up.
     /// - [`Error::Memory`]: it ran out.
     pub fn begin(&mut self, command: &[u8]) -> Result<(), Error> {
-        // SAFETY: an end's handle, and a slice with its length.
-        done(unsafe { raw::galliumtoad_t1_begin(self.0.at(), command.as_ptr(), command.len()) })
+        done(self.0.galliumtoad_t1_begin(command))
     }
 
     /// Copies the block to send now to the front of `room`. Returns `None` if no command is in
@@ -172,17 +176,8 @@ impl T1 {
     /// - [`Error::Memory`]: it ran out.
     /// - [`Error::Buffer`]: `room` is too short. [`BLOCK_LIMIT`] bytes are always enough.
     pub fn block_into(&self, room: &mut [u8]) -> Result<Option<Block>, Error> {
-        let (mut count, mut waits) = (0, 0);
-        // SAFETY: an end's handle; `room` with its length, `count` and `waits` are apart.
-        let code = unsafe {
-            raw::galliumtoad_t1_send_bytes(
-                self.0.at(),
-                room.as_mut_ptr(),
-                room.len(),
-                &mut count,
-                &mut waits,
-            )
-        };
+        let (end, mut count, mut waits) = (&self.0, 0, 0);
+        let code = end.galliumtoad_t1_send_bytes(room, &mut count, &mut waits);
         match told(code)? {
             raw::DONE => Ok(None),
             _ => Ok(Some(Block { count, waits })),
@@ -200,12 +195,8 @@ impl T1 {
     ///   [`missed`](T1::missed).
     pub fn receive(&mut self, bytes: &[u8]) -> Result<Received, Error> {
         let mut taken = 0;
-        // SAFETY: an end's handle; a slice with its length, and `taken`, which are apart.
-        let code = told(unsafe {
-            raw::galliumtoad_t1_receive_bytes(self.0.at(), bytes.as_ptr(), bytes.len(), &mut taken)
-        })?;
-        let is_whole = code == raw::SENDS;
-        Ok(Received { taken, is_whole })
+        let code = self.0.galliumtoad_t1_receive_bytes(bytes, &mut taken);
+        Received::of(code, taken)
     }
 
     /// Reports that no valid block of the card came. Either none began within BWT times
@@ -216,8 +207,7 @@ impl T1 {
     ///
     /// - [`Error::State`]: no block is awaited. Nothing has changed.
     pub fn missed(&mut self) -> Result<(), Error> {
-        // SAFETY: an end's handle.
-        done(unsafe { raw::galliumtoad_t1_missed(self.0.at()) })
+        done(self.0.galliumtoad_t1_missed())
     }
 
     /// Reports that a character of the card's block had a wrong parity: as
@@ -228,8 +218,7 @@ impl T1 {
     ///
     /// - [`Error::State`]: no block is awaited. Nothing has changed.
     pub fn damaged(&mut self) -> Result<(), Error> {
-        // SAFETY: an end's handle.
-        done(unsafe { raw::galliumtoad_t1_damaged(self.0.at()) })
+        done(self.0.galliumtoad_t1_damaged())
     }
 
     /// Copies the response to the last command to the front of `room`: data, and then SW1 SW2. The
@@ -245,10 +234,7 @@ impl T1 {
     /// - [`Error::Buffer`]: there are more bytes than `room` has place for.
     pub fn response_into(&self, room: &mut [u8]) -> Result<usize, Error> {
         let mut count = 0;
-        // SAFETY: an end's handle; `room` with its length and `count` are apart.
-        done(unsafe {
-            raw::galliumtoad_t1_response(self.0.at(), room.as_mut_ptr(), room.len(), &mut count)
-        })?;
+        done(self.0.galliumtoad_t1_response(room, &mut count))?;
         Ok(count)
     }
 
@@ -257,8 +243,7 @@ impl T1 {
     #[must_use]
     pub fn fault(&self) -> Option<T1Fault> {
         let (mut cause, mut outcome) = (0, 0);
-        // SAFETY: an end's handle; `cause` and `outcome` are apart.
-        done(unsafe { raw::galliumtoad_t1_fault(self.0.at(), &mut cause, &mut outcome) }).ok()?;
+        done(self.0.galliumtoad_t1_fault(&mut cause, &mut outcome)).ok()?;
         let outcome = match outcome {
             raw::NOT_CARRIED_OUT => Outcome::NotCarriedOut,
             raw::IN_PART => Outcome::InPart,
@@ -275,7 +260,6 @@ impl T1 {
     ///
     /// None today.
     pub fn reset(&mut self) -> Result<(), Error> {
-        // SAFETY: an end's handle.
-        done(unsafe { raw::galliumtoad_t1_reset(self.0.at()) })
+        done(self.0.galliumtoad_t1_reset())
     }
 }

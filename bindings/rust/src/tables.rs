@@ -1,7 +1,7 @@
 //! What a card holds, alone or in a session.
 
 use crate::card::{Card, Entry, AID_LIMIT};
-use crate::raw::{self, copied, Handle, Held};
+use crate::raw::{self, copied};
 use crate::session::Session;
 use alloc::vec;
 use alloc::vec::Vec;
@@ -13,16 +13,12 @@ macro_rules! tables {
             /// Returns the identifier of the selected application, or `None` if none is selected.
             #[must_use]
             pub fn selected(&self) -> Option<Vec<u8>> {
-                // SAFETY: a handle of this kind, which a call by `&` may write to (`Handle`).
-                aid(|to, room, n| unsafe { raw::$selected(self.0.at(), to, room, n) })
+                aid(|to, n| self.0.$selected(to, n))
             }
 
             /// Returns the identifiers of the card's applications, in the order of building.
             pub fn apps(&self) -> impl Iterator<Item = Vec<u8>> + '_ {
-                (0..).map_while(move |app| {
-                    // SAFETY: as in `selected`.
-                    aid(|to, room, n| unsafe { raw::$app_at(self.0.at(), app, to, room, n) })
-                })
+                (0..).map_while(move |app| aid(|to, n| self.0.$app_at(app, to, n)))
             }
 
             /// Returns the place of the application with this identifier, from 0, for
@@ -35,7 +31,9 @@ macro_rules! tables {
             /// Returns the data objects of the application at this place, from 0, in order of first
             /// storing. It yields nothing if `app` is past the last.
             pub fn entries(&self, app: usize) -> impl Iterator<Item = Entry> + '_ {
-                (0..).map_while(move |at| entry(&self.0, raw::$entry_at, app, at))
+                (0..).map_while(move |at| {
+                    entry(|tag, locked, value, n| self.0.$entry_at(app, at, tag, locked, value, n))
+                })
             }
         }
     };
@@ -48,44 +46,23 @@ tables! {
     Session, galliumtoad_session_selected, galliumtoad_session_app_at, galliumtoad_session_entry_at
 }
 
-fn aid(copies: impl FnOnce(*mut u8, usize, &mut usize) -> i32) -> Option<Vec<u8>> {
+fn aid(copies: impl FnOnce(&mut [u8], &mut usize) -> i32) -> Option<Vec<u8>> {
     copied::<AID_LIMIT>(copies).map(|it| it.to_vec())
 }
 
-/// A function of the archive that copies an object.
-#[rustfmt::skip]
-type Copies = unsafe extern "C" fn(
-    *mut Held, usize, usize, *mut u32, *mut i32, *mut u8, usize, *mut usize,
-) -> i32;
-
-/// An object, whose value takes no more memory than it needs. The handle is of the function's kind.
-fn entry(handle: &Handle, copies: Copies, app: usize, at: usize) -> Option<Entry> {
-    let copy = |value| copy(handle, copies, app, at, value);
-    let (mut code, mut found, n) = copy(Vec::new());
+/// An object, whose value takes no more memory than it needs. `copies` writes tag, lock, value and
+/// how many bytes the value has.
+fn entry(copies: impl Fn(&mut u32, &mut i32, &mut [u8], &mut usize) -> i32) -> Option<Entry> {
+    let (mut tag, mut locked, mut value, mut n) = (0, 0, Vec::new(), 0);
+    let mut code = copies(&mut tag, &mut locked, &mut value, &mut n);
     if code == raw::BUFFER {
-        (code, found, _) = copy(vec![0; n]);
+        value = vec![0; n];
+        code = copies(&mut tag, &mut locked, &mut value, &mut n);
     }
-    (code == raw::OK).then_some(found)
-}
-
-/// The result of `copies`, the object, and how many bytes its value has. They are in `value` if
-/// that has room for them.
-fn copy(
-    handle: &Handle,
-    copies: Copies,
-    app: usize,
-    at: usize,
-    mut value: Vec<u8>,
-) -> (i32, Entry, usize) {
-    let (mut tag, mut locked, mut n) = (0, 0, 0);
-    let (held, to, room) = (handle.at(), value.as_mut_ptr(), value.len());
-    // SAFETY: a handle that a call by `&` may write to (`Handle`); all that is written to, and
-    // `value` with its length, are apart.
-    let code = unsafe { copies(held, app, at, &mut tag, &mut locked, to, room, &mut n) };
-    let found = Entry {
+    let is_locked = locked != 0;
+    (code == raw::OK).then_some(Entry {
         tag,
         value,
-        is_locked: locked != 0,
-    };
-    (code, found, n)
+        is_locked,
+    })
 }

@@ -34,23 +34,6 @@ impl fmt::Debug for Operation<'_> {
     }
 }
 
-/// Calls the function for an operation, of those for this kind of handle.
-macro_rules! calls {
-    ($operation:ident, $handle:expr => $select:ident, $get:ident, $put:ident, $send:ident) => {{
-        use crate::terminal::Operation::{Get, Put, Select, Send};
-        // SAFETY: a handle of the functions' kind; each slice has its length.
-        crate::error::done(unsafe {
-            match $operation {
-                Select(aid) => raw::$select($handle.at(), aid.as_ptr(), aid.len()),
-                Get(tag) => raw::$get($handle.at(), tag),
-                Put(tag, it) => raw::$put($handle.at(), tag, it.as_ptr(), it.len()),
-                Send(it) => raw::$send($handle.at(), it.as_ptr(), it.len()),
-            }
-        })
-    }};
-}
-pub(crate) use calls;
-
 /// A terminal, which carries out one operation after another with a card over any line.
 ///
 /// An operation begins ([`begin`](Terminal::begin)). Then its characters, its whole TPDUs or its
@@ -84,7 +67,7 @@ pub(crate) use calls;
 /// # Ok::<(), galliumtoad::Error>(())
 /// ```
 #[derive(Debug)]
-pub struct Terminal(pub(crate) Handle);
+pub struct Terminal(pub(crate) Handle<raw::Terminal>);
 
 impl Terminal {
     /// Makes a terminal that has begun no operation.
@@ -107,10 +90,9 @@ impl Terminal {
     /// - [`Error::Argument`]: the limit is above that.
     /// - [`Error::Memory`]: it ran out.
     pub fn new_within(limit: usize) -> Result<Terminal, Error> {
-        let terminal = Terminal(Handle::empty(raw::galliumtoad_terminal_free));
-        // SAFETY: the handle holds nothing.
-        told(unsafe { raw::galliumtoad_terminal_new_within(terminal.0.at(), limit) })?;
-        Ok(terminal)
+        let terminal = Handle::<raw::Terminal>::empty();
+        told(terminal.galliumtoad_terminal_new_within(limit))?;
+        Ok(Terminal(terminal))
     }
 
     /// Begins an operation, and drops the last answer. By characters and TPDUs all memory that it
@@ -128,10 +110,12 @@ impl Terminal {
     ///   command.
     /// - [`Error::Memory`]: it ran out.
     pub fn begin(&mut self, operation: Operation<'_>) -> Result<(), Error> {
-        calls! { operation, self.0 =>
-            galliumtoad_terminal_select, galliumtoad_terminal_get,
-            galliumtoad_terminal_put, galliumtoad_terminal_send
-        }
+        done(match operation {
+            Operation::Select(aid) => self.0.galliumtoad_terminal_select(aid),
+            Operation::Get(tag) => self.0.galliumtoad_terminal_get(tag),
+            Operation::Put(tag, value) => self.0.galliumtoad_terminal_put(tag, value),
+            Operation::Send(command) => self.0.galliumtoad_terminal_send(command),
+        })
     }
 
     /// Returns whether all data of the operation's commands so far have left the terminal, as
@@ -140,9 +124,8 @@ impl Terminal {
     /// [`DataSent::NotAll`] stays for the rest of the operation.
     #[must_use]
     pub fn data_sent(&self) -> Option<DataSent> {
-        // SAFETY: a terminal's handle.
-        let code = unsafe { raw::galliumtoad_terminal_data_sent(self.0.at()) };
-        told(code).ok().map(DataSent::of)
+        let code = told(self.0.galliumtoad_terminal_data_sent());
+        code.ok().map(DataSent::of)
     }
 
     /// Drops the last operation, at any point of it, and its answer. Wipes and frees the memory
@@ -153,7 +136,6 @@ impl Terminal {
     ///
     /// None today.
     pub fn reset(&mut self) -> Result<(), Error> {
-        // SAFETY: a terminal's handle.
-        done(unsafe { raw::galliumtoad_terminal_reset(self.0.at()) })
+        done(self.0.galliumtoad_terminal_reset())
     }
 }

@@ -3,9 +3,8 @@
 use crate::card::Card;
 use crate::error::Error;
 use crate::exchange::Answer;
-use crate::raw;
 use crate::terminal::{Operation, Terminal};
-use crate::whole::{due_into, ANSWER_LIMIT, APDU_LIMIT};
+use crate::whole::{ANSWER_LIMIT, APDU_LIMIT};
 use crate::wiped::Wiped;
 use core::fmt;
 use core::ops::DerefMut;
@@ -184,12 +183,11 @@ impl Terminal {
     /// Passes what the operation that has begun sends, until it has nothing more to send.
     fn pass<T: Transport + ?Sized>(&mut self, reader: &mut T) -> Result<(), RunError<T::Error>> {
         let level = reader.level();
-        let copies = match level {
-            Level::Tpdu => raw::galliumtoad_terminal_tpdu,
-            Level::Apdu => raw::galliumtoad_terminal_apdu,
-        };
         let (mut sent, mut room) = (Wiped([0; APDU_LIMIT]), Wiped([0; ANSWER_LIMIT]));
-        while let Some(due) = due_into(&self.0, copies, &mut sent.0)? {
+        while let Some(due) = match level {
+            Level::Tpdu => self.tpdu_into(&mut sent.0),
+            Level::Apdu => self.apdu_into(&mut sent.0),
+        }? {
             // a reader that writes less than it claims hands back none of an earlier answer
             room.0.fill(0);
             let came = reader.transmit(&sent.0[..due.count], &mut room.0);

@@ -1,14 +1,13 @@
 //! The version of the library, and whether it fits this crate.
 
-use crate::raw;
+use crate::raw::Library;
 use core::sync::atomic::{AtomicBool, Ordering::Relaxed};
 
 /// Returns the version of the header that the library was built for: major, minor and patch number.
 /// It never panics.
 #[must_use]
 pub fn version() -> (u32, u32, u32) {
-    // SAFETY: nothing is handed over.
-    let number = unsafe { raw::galliumtoad_version() };
+    let number = Library::galliumtoad_version();
     (number / 0x10000, number / 0x100 % 0x100, number % 0x100)
 }
 

@@ -1,12 +1,11 @@
 //! Whole TPDUs and commands, as a reader of PC/SC carries them (`SCardTransmit` at T=0 and T=1).
 
 use crate::card::Card;
-use crate::error::{done, Error};
+use crate::error::{done, shown, Error};
 use crate::own_card::Application;
-use crate::raw::{self, Handle, Held};
+use crate::raw::{self, Handle};
 use crate::wiped::{room_for, wipe, Wiped};
 use alloc::vec::Vec;
-use core::fmt;
 use core::mem::take;
 
 /// The most bytes of a whole TPDU: header, P3 and 255 bytes of data.
@@ -31,11 +30,7 @@ pub struct Pdu {
     pub most: usize,
 }
 
-impl fmt::Debug for Pdu {
-    fn fmt(&self, f: &mut fmt::Formatter<'_>) -> fmt::Result {
-        write!(f, "Pdu({} bytes, {} back)", self.bytes.len(), self.most)
-    }
-}
+shown! { Debug for Pdu: it => "Pdu({} bytes, {} back)", it.bytes.len(), it.most }
 
 impl Drop for Pdu {
     fn drop(&mut self) {
@@ -54,20 +49,8 @@ pub struct Due {
     pub most: usize,
 }
 
-/// A function of the archive that copies the TPDU or the command of a handle.
-type Copies = unsafe extern "C" fn(*mut Held, *mut u8, usize, *mut usize, *mut usize) -> i32;
-
-/// Copies what to send to the front of `room`, if there is anything. The handle is of the
-/// function's kind.
-pub(crate) fn due_into(
-    handle: &Handle,
-    copies: Copies,
-    room: &mut [u8],
-) -> Result<Option<Due>, Error> {
-    let (mut count, mut most, bytes) = (0, 0, room.as_mut_ptr());
-    // SAFETY: a handle that a call by `&` may write to (`Handle`); `room` with its length, `count`
-    // and `most` are apart from it and from one another.
-    let code = unsafe { copies(handle.at(), bytes, room.len(), &mut count, &mut most) };
+/// What was copied to send, if there is anything.
+pub(crate) fn due(code: i32, count: usize, most: usize) -> Result<Option<Due>, Error> {
     match done(code) {
         Err(Error::NotDue) => Ok(None),
         told => told.map(|()| Some(Due { count, most })),
@@ -75,9 +58,11 @@ pub(crate) fn due_into(
 }
 
 /// What to send, in memory of its own.
-pub(crate) fn pdu(handle: &Handle, copies: Copies) -> Result<Option<Pdu>, Error> {
+pub(crate) fn pdu(
+    copies: impl FnOnce(&mut [u8]) -> Result<Option<Due>, Error>,
+) -> Result<Option<Pdu>, Error> {
     let mut room = Wiped([0; APDU_LIMIT]);
-    let due = due_into(handle, copies, &mut room.0)?;
+    let due = copies(&mut room.0)?;
     due.map(|Due { count, most }| {
         let mut bytes = room_for(count).ok_or(Error::Memory)?;
         bytes.copy_from_slice(&room.0[..count]);
@@ -87,7 +72,7 @@ pub(crate) fn pdu(handle: &Handle, copies: Copies) -> Result<Option<Pdu>, Error>
 }
 
 /// A function of the archive that has a card carry out a TPDU or a command.
-type Carries = unsafe extern "C" fn(*mut Held, *const u8, usize, *mut u8, usize, *mut usize) -> i32;
+type Carries = fn(&Handle<raw::Card>, &[u8], &mut [u8], &mut usize) -> i32;
 
 impl<A: Application> Card<A> {
     /// Carries out a whole TPDU, as the firmware of a reader does, under the next of the plans. Its
@@ -102,7 +87,7 @@ impl<A: Application> Card<A> {
     ///   reset, with its application. The plan is used up.
     /// - Those of the application, see [`OwnCard`](crate::OwnCard).
     pub fn tpdu(&mut self, tpdu: &[u8]) -> Result<Vec<u8>, Error> {
-        self.answer_to(raw::galliumtoad_card_tpdu, tpdu)
+        self.answer_to(Handle::galliumtoad_card_tpdu, tpdu)
     }
 
     /// As [`tpdu`](Card::tpdu), with the answer at the front of `room`. Returns the number of its
@@ -114,7 +99,7 @@ impl<A: Application> Card<A> {
     ///   five bytes. Nothing has changed.
     /// - Any other: as [`tpdu`](Card::tpdu); `room` is unchanged.
     pub fn tpdu_into(&mut self, tpdu: &[u8], room: &mut [u8]) -> Result<usize, Error> {
-        self.carry_out(raw::galliumtoad_card_tpdu, tpdu, room)
+        self.carry_out(Handle::galliumtoad_card_tpdu, tpdu, room)
     }
 
     /// Carries out a whole command, as a card at T=1 or without contacts does. The response is
@@ -142,7 +127,7 @@ impl<A: Application> Card<A> {
     /// - [`Error::TooShort`], [`Error::InvalidIns`]: the bytes are not a command.
     /// - [`Error::Memory`]: it ran out.
     pub fn apdu(&mut self, command: &[u8]) -> Result<Vec<u8>, Error> {
-        self.answer_to(raw::galliumtoad_card_apdu, command)
+        self.answer_to(Handle::galliumtoad_card_apdu, command)
     }
 
     /// As [`apdu`](Card::apdu), with the response at the front of `room`. Returns the number of its
@@ -154,7 +139,7 @@ impl<A: Application> Card<A> {
     ///   with wrong lengths. Nothing has changed.
     /// - Any other: as [`apdu`](Card::apdu); `room` is unchanged.
     pub fn apdu_into(&mut self, command: &[u8], room: &mut [u8]) -> Result<usize, Error> {
-        self.carry_out(raw::galliumtoad_card_apdu, command, room)
+        self.carry_out(Handle::galliumtoad_card_apdu, command, room)
     }
 
     /// The answer in memory that is taken before the card does anything.
@@ -167,14 +152,8 @@ impl<A: Application> Card<A> {
 
     fn carry_out(&mut self, call: Carries, sent: &[u8], room: &mut [u8]) -> Result<usize, Error> {
         let (mut sent, mut count) = (sent, 0);
-        let (to, n) = (room.as_mut_ptr(), room.len());
-        self.run(|card| {
-            // what waits continues without bytes
-            let bytes = take(&mut sent);
-            // SAFETY: a card's handle, for a function of a card; slices with their lengths, and
-            // `count`, which are apart.
-            unsafe { call(card, bytes.as_ptr(), bytes.len(), to, n, &mut count) }
-        })?;
+        // what waits continues without bytes
+        self.run(|card| call(card, take(&mut sent), room, &mut count))?;
         Ok(count)
     }
 }

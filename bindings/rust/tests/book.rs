@@ -3,7 +3,7 @@
 //! Python run the same plays.
 
 use galliumtoad::{whole_commands, Answer, Atr, Card, CardBuilder, CardT1, End, Entry, Line};
-use galliumtoad::{Operation, Session, T1Limits, T1Line, Terminal, BLOCK_LIMIT, T1};
+use galliumtoad::{Level, Operation, Session, T1Limits, T1Line, Terminal, BLOCK_LIMIT, T1};
 use std::collections::VecDeque;
 use std::fs;
 use std::path::{Path, PathBuf};
@@ -89,17 +89,16 @@ fn entry(it: Entry) -> String {
     format!("  {:X} {}{locked}", it.tag, value.as_deref().unwrap_or("-"))
 }
 
-/// What `table` prints of an application.
-fn app(aid: &[u8], entries: impl Iterator<Item = Entry>) -> Vec<String> {
-    let mut lines = vec![format!("app {}", digits(aid))];
-    lines.extend(entries.map(entry));
-    lines
-}
-
-fn table(card: &Card) -> Vec<String> {
-    let apps = card.apps().enumerate();
-    apps.flat_map(|(at, aid)| app(&aid, card.entries(at)))
-        .collect()
+/// What `table` prints of a card, or of that of a session.
+macro_rules! table {
+    ($of:expr) => {{
+        let mut lines = Vec::new();
+        for (at, aid) in $of.apps().enumerate() {
+            lines.push(format!("app {}", digits(&aid)));
+            lines.extend($of.entries(at).map(entry));
+        }
+        lines
+    }};
 }
 
 /// A terminal and a card, joined in any way.
@@ -108,7 +107,7 @@ trait Ends {
 
     fn run(&mut self, operation: Operation<'_>) -> Answer;
 
-    /// The lines for the characters of the last operation.
+    /// The lines for the characters of the last operation: one for each turn of an end.
     fn turns(&self) -> Vec<String> {
         Vec::new()
     }
@@ -163,14 +162,17 @@ fn plays<E: Ends>(has_turns: bool, ends: impl Fn(Card) -> E) {
     }
 }
 
-/// Carries an operation of the terminal to the card.
-type Carries = fn(&mut Terminal, &mut Card, Operation<'_>) -> Answer;
-
-struct Joined(Terminal, Card, Carries);
+struct Joined(Terminal, Card, Level);
 
 impl Ends for Joined {
     fn run(&mut self, operation: Operation<'_>) -> Answer {
-        self.2(&mut self.0, &mut self.1, operation)
+        let Joined(terminal, card, level) = self;
+        let mut commands = whole_commands(|command, answer| card.apdu_into(command, answer));
+        let answer = match level {
+            Level::Apdu => terminal.run(&mut commands, operation),
+            _ => terminal.run(card, operation),
+        };
+        answer.expect("an answer")
     }
 
     fn reset(&mut self) {
@@ -178,24 +180,15 @@ impl Ends for Joined {
     }
 
     fn table(&self) -> Vec<String> {
-        table(&self.1)
+        table!(self.1)
     }
 }
 
-fn over_tpdus(terminal: &mut Terminal, card: &mut Card, operation: Operation<'_>) -> Answer {
-    terminal.run(card, operation).expect("an answer")
-}
-
-fn over_commands(terminal: &mut Terminal, card: &mut Card, operation: Operation<'_>) -> Answer {
-    let mut reader = whole_commands(|command, answer| card.apdu_into(command, answer));
-    terminal.run(&mut reader, operation).expect("an answer")
-}
-
 #[test]
-fn each_way_has_the_answers_of_the_book() {
-    for way in [over_tpdus as Carries, over_commands] {
+fn each_level_has_the_answers_of_the_book() {
+    for level in [Level::Tpdu, Level::Apdu] {
         plays(false, |card| {
-            Joined(Terminal::new().expect("memory"), card, way)
+            Joined(Terminal::new().expect("memory"), card, level)
         });
     }
 }
@@ -237,7 +230,7 @@ impl Ends for ByBlocks {
     }
 
     fn table(&self) -> Vec<String> {
-        table(self.1.line.0.card())
+        table!(self.1.line.0.card())
     }
 }
 
@@ -264,7 +257,14 @@ impl Ends for Session {
     }
 
     fn turns(&self) -> Vec<String> {
-        turns(&self.heard().expect("all"))
+        let (mut lines, mut last) = (Vec::new(), None);
+        for (from, byte) in self.heard().expect("all") {
+            if last.replace(from) != Some(from) {
+                lines.push(if from == End::Card { "< " } else { "> " }.to_owned());
+            }
+            *lines.last_mut().expect("a line") += &digits(&[byte]);
+        }
+        lines
     }
 
     fn reset(&mut self) {
@@ -272,9 +272,7 @@ impl Ends for Session {
     }
 
     fn table(&self) -> Vec<String> {
-        let apps = self.apps().enumerate();
-        apps.flat_map(|(at, aid)| app(&aid, self.entries(at)))
-            .collect()
+        table!(self)
     }
 }
 
@@ -286,18 +284,4 @@ fn a_session_prints_the_book() {
         session.listen().expect("somebody listens");
         session
     });
-}
-
-/// A line for each turn of an end.
-fn turns(heard: &[(End, u8)]) -> Vec<String> {
-    let mut lines: Vec<(End, Vec<u8>)> = Vec::new();
-    for (from, byte) in heard {
-        match lines.last_mut() {
-            Some((last, bytes)) if last == from => bytes.push(*byte),
-            _ => lines.push((*from, vec![*byte])),
-        }
-    }
-    let sign = |from| if from == End::Card { '<' } else { '>' };
-    let line = |(from, bytes): (End, Vec<u8>)| format!("{} {}", sign(from), digits(&bytes));
-    lines.into_iter().map(line).collect()
 }

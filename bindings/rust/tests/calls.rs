@@ -1,6 +1,7 @@
-//! Tests objects, and the tables of a card, by the rules of BER-TLV and of the card.
+//! Tests objects, the tables and plans of a card, and the buffers and levels of an exchange, by the
+//! rules of BER-TLV and of the card.
 
-use galliumtoad::{encode, find, ObjectsError};
+use galliumtoad::{encode, find, DataSent, Exchange, ObjectsError, Pdu, Stop, Terminal, Turn};
 use galliumtoad::{CardBuilder, Error, Objects, Operation, Reason, Session};
 use std::error::Error as _;
 
@@ -44,6 +45,8 @@ fn objects_are_listed_with_their_places() {
     assert_eq!(placed(fault), Some((1, Reason::ValueCut)));
     assert_eq!(fault.to_string(), "value cut at 1");
     assert_eq!(Objects::over(&[]).expect("no objects").count(), 0);
+    let many = b"\x50\x01A".repeat(2_730);
+    assert_eq!(Objects::over(&many).expect("objects").count(), 2_730);
 }
 
 #[test]
@@ -148,25 +151,6 @@ fn objects_are_written() {
     assert!(encode(0x50, &[b"\x50\x02A"]).is_ok());
 }
 
-/// The place of an application goes with `entries`.
-#[test]
-fn applications_are_found_by_identifier() {
-    let mut builder = builder();
-    let other = [0xD0, 0, 0, 0, 1];
-    builder.app(&other).expect("an application");
-    builder.object(0x50, b"OTHER").expect("an object");
-    let card = builder.finish().expect("a card");
-    assert_eq!(card.place_of(&AID), Some(0));
-    assert_eq!(card.place_of(&other), Some(1));
-    assert_eq!(card.place_of(&AID[..5]), None);
-    assert_eq!(card.place_of(&[]), None);
-    let session = Session::start(card).expect("a session");
-    let place = session.place_of(&other).expect("an application");
-    assert_eq!(session.entries(place).next().expect("one").value, b"OTHER");
-    assert_eq!(session.place_of(&AID), Some(0));
-    assert_eq!(session.place_of(&[0xD0; 5]), None);
-}
-
 #[test]
 fn a_session_that_nobody_listens_to() {
     let card = builder().finish().expect("a card");
@@ -176,4 +160,65 @@ fn a_session_that_nobody_listens_to() {
     assert_eq!(session.heard(), Ok(Vec::new()));
     assert_eq!(session.is_idle(), Ok(true));
     assert_eq!(session.run(Operation::Send(&[0x00])), Err(Error::TooShort));
+    let selected = session.select(&AID).expect("an answer");
+    assert_eq!(selected.status, 0x9000);
+    // a chain is pending
+    let begun = session.send(b"\x10\xDA\x5F\x20\x01A");
+    assert_eq!(begun.expect("an answer").status, 0x9000);
+    assert_eq!(session.is_idle(), Ok(false));
+}
+
+/// A NULL before the procedure byte.
+#[test]
+fn a_card_has_plans() {
+    let mut card = builder().finish().expect("a card");
+    card.plan("n", 256).expect("a plan");
+    card.receive_bytes(b"\x00\xA4\x04\x00\x07")
+        .expect("listens");
+    let bytes = [card.turn(), card.turn(), card.turn()].map(|it| it.expect("a card"));
+    assert_eq!(bytes, [Turn::Sends(0x60), Turn::Sends(0xA4), Turn::Listens]);
+}
+
+/// An exchange goes by TPDUs, or by commands with their Le.
+#[test]
+fn an_exchange_has_a_level() {
+    let command = b"\x00\xA4\x04\x00\x05AAAAA\x00";
+    let mut exchange = Exchange::start(command).expect("memory");
+    let due = |it: Option<Pdu>| it.expect("due").bytes.clone();
+    assert_eq!(exchange.apdu().map(due), Ok(command.to_vec()));
+    assert_eq!(exchange.tpdu().map(due), Ok(command[..10].to_vec()));
+    assert_eq!(exchange.responded(b"\x90\x00"), Ok(()));
+    assert_eq!(exchange.tpdu(), Err(Error::State));
+}
+
+/// Passes buffers between an end and a card, the first byte alone, until the end is done.
+macro_rules! passes {
+    ($end:expr, $card:expr) => {
+        let mut room = [0; 20];
+        loop {
+            let sent = $end.send_bytes(&mut room).expect("an end");
+            if sent.stop == Stop::Done {
+                break;
+            }
+            $card.receive_bytes(&room[..sent.count]).expect("listens");
+            let sent = $card.send_bytes(&mut room).expect("a card");
+            let (first, rest) = room[..sent.count].split_first().expect("an answer");
+            $end.take(*first).expect("listens");
+            $end.receive_bytes(rest).expect("listens");
+        }
+    };
+}
+
+#[test]
+fn an_exchange_and_a_terminal_go_by_buffers() {
+    let mut card = builder().finish().expect("a card");
+    let mut terminal = Terminal::new().expect("memory");
+    terminal.begin(Operation::Select(&AID)).expect("begun");
+    passes!(terminal, card);
+    assert_eq!(terminal.data_sent(), Some(DataSent::All));
+    assert_eq!(terminal.answer().expect("an answer").data[4..], AID);
+    let mut exchange = Exchange::start(b"\x00\xDA\x5F\x20\x03ANN").expect("memory");
+    passes!(exchange, card);
+    assert_eq!(exchange.data_sent(), DataSent::All);
+    assert_eq!(card.entries(0).next().expect("an object").value, b"ANN");
 }

@@ -1,7 +1,9 @@
-//! Tests the full tables of a card and of a session, and iterators to their end.
+//! Tests the full tables of a card and of a session, and the longest responses.
 
-use galliumtoad::{CardBuilder, Error, Objects, Session};
+use galliumtoad::{CardBuilder, Edc, Error, Exchange, Operation, RunError, Session};
+use galliumtoad::{T1Limits, Terminal, ANSWER_LIMIT, RESPONSE_LIMIT, T1};
 use galliumtoad::{AID_LEAST, AID_LIMIT, APPS_LIMIT, ENTRIES_LIMIT, VALUE_LIMIT};
+use std::convert::Infallible;
 
 /// A pattern of bytes whose period is prime.
 fn bytes(n: usize, from: usize) -> Vec<u8> {
@@ -41,6 +43,8 @@ fn full_card() -> CardBuilder {
 macro_rules! tells_all {
     ($of:expr) => {
         assert!($of.apps().eq((0..8).map(aid)));
+        assert_eq!($of.place_of(&aid(7)), Some(7));
+        assert_eq!($of.place_of(&aid(7)[..5]), None);
         let told = $of.entries(7).map(|it| {
             assert_eq!(it.value.capacity(), it.value.len());
             (it.tag, it.value, it.is_locked)
@@ -72,19 +76,60 @@ fn a_card_and_a_session_tell_all_of_their_tables() {
     tells_all!(card);
 }
 
-#[test]
-fn objects_are_listed_to_the_last() {
-    let list = [0x50, 0x01, 0x41].repeat(2730);
-    let mut objects = Objects::over(&list).expect("objects");
-    assert_eq!(objects.len(), 2730);
-    for left in (0..2730).rev() {
-        let object = objects.next().expect("an object");
-        assert_eq!((object.place, object.size), (3 * (2729 - left), 3));
-        assert_eq!(object.value, b"A");
-        assert_eq!(objects.size_hint(), (left, Some(left)));
+/// A reader whose card answers with this number of bytes, 256 at a time.
+fn reader(mut left: usize) -> impl FnMut(&[u8], &mut [u8]) -> Result<usize, Infallible> {
+    move |_, answer| {
+        let n = left.min(256);
+        left -= n;
+        let status = if left > 0 { [0x61, 0x00] } else { [0x90, 0x00] };
+        answer[n..n + 2].copy_from_slice(&status);
+        Ok(n + 2)
     }
-    assert_eq!(
-        (objects.next(), objects.next(), objects.len()),
-        (None, None, 0)
-    );
+}
+
+/// The number of bytes of an exchange's answer.
+fn passed(mut exchange: Exchange, count: usize) -> Result<usize, Error> {
+    let (mut reader, mut room) = (reader(count), [0; ANSWER_LIMIT]);
+    while let Some(tpdu) = exchange.tpdu()? {
+        let n = reader(&tpdu.bytes, &mut room).expect("an answer");
+        exchange.answered(&room[..n])?;
+    }
+    exchange.answer().map(|it| it.data.len())
+}
+
+#[test]
+fn responses_are_as_long_as_they_may_be() {
+    let get = b"\x00\xCA\x5F\x20\x00";
+    for limit in [0, 5, 300, RESPONSE_LIMIT] {
+        for (count, wanted) in [(limit, Ok(limit)), (limit + 1, Err(Error::TooLong))] {
+            let (exchange, terminal) = match limit {
+                RESPONSE_LIMIT => (Exchange::start(get), Terminal::new()),
+                _ => (
+                    Exchange::start_within(get, limit),
+                    Terminal::new_within(limit),
+                ),
+            };
+            assert_eq!(passed(exchange.expect("memory"), count), wanted);
+            let mut terminal = terminal.expect("memory");
+            let found = terminal.run(&mut reader(count), Operation::Send(get));
+            let found = found.map(|it| it.data.len());
+            assert_eq!(found, wanted.map_err(RunError::Terminal));
+        }
+    }
+    for limit in [RESPONSE_LIMIT + 1, usize::MAX] {
+        let refused = Some(Error::Argument);
+        assert_eq!(Exchange::start_within(get, limit).err(), refused);
+        assert_eq!(Terminal::new_within(limit).err(), refused);
+    }
+}
+
+#[test]
+fn ends_at_t1_have_limits() {
+    let limits = T1Limits::default();
+    let numbers = (limits.tries, limits.extensions, limits.response);
+    assert_eq!(numbers, (4, 1_000, ANSWER_LIMIT));
+    assert!(T1::new(Edc::Lrc, 254, limits).is_ok());
+    for (edc, ifsc) in [(Edc::Lrc, 255), (Edc::Crc, 254)] {
+        assert_eq!(T1::new(edc, ifsc, limits).err(), Some(Error::Argument));
+    }
 }

@@ -1,10 +1,14 @@
-//! Tests that handles take their memory of the program's heap, and free all of it. A heap that
-//! counts replaces that of the crate, which the feature `own-memory` leaves out. What happens when
-//! memory runs out is tested in C.
+//! Tests that handles take their memory of the program's heap, and free all of it. C's heap, with a
+//! count, replaces that of the crate, which the feature `own-memory` leaves out.
 
-use galliumtoad::{CardBuilder, Error, Exchange, Operation, Session, Terminal};
-use std::alloc::{alloc, dealloc, Layout};
+use galliumtoad::{CardBuilder, Session};
 use std::sync::atomic::{AtomicUsize, Ordering::SeqCst};
+
+extern "C" {
+    fn malloc(size: usize) -> *mut u8;
+    fn realloc(block: *mut u8, size: usize) -> *mut u8;
+    fn free(block: *mut u8);
+}
 
 #[repr(C)]
 pub struct Taken {
@@ -12,26 +16,19 @@ pub struct Taken {
     at: *mut u8,
 }
 
-/// The size of a block is stored in this many bytes before it.
-const HEAD: usize = 16;
-
+/// The number of blocks.
 static TAKEN: AtomicUsize = AtomicUsize::new(0);
 
-fn layout(size: usize) -> Layout {
-    Layout::from_size_align(HEAD + size, HEAD).expect("a size")
+fn taken(at: *mut u8) -> Taken {
+    assert!(!at.is_null(), "memory");
+    Taken { some: true, at }
 }
 
 #[no_mangle]
 pub extern "C" fn rattle_alloc(size: usize, _align: usize) -> Taken {
-    TAKEN.fetch_add(size, SeqCst);
-    // SAFETY: the layout is not empty, and has room for the size before the block.
-    let at = unsafe {
-        let whole = alloc(layout(size));
-        assert!(!whole.is_null(), "memory");
-        whole.cast::<usize>().write(size);
-        whole.add(HEAD)
-    };
-    Taken { some: true, at }
+    TAKEN.fetch_add(1, SeqCst);
+    // SAFETY: a size is all it needs.
+    taken(unsafe { malloc(size.max(1)) })
 }
 
 /// # Safety
@@ -39,52 +36,30 @@ pub extern "C" fn rattle_alloc(size: usize, _align: usize) -> Taken {
 /// `block` comes from `rattle_alloc`, and is not used again.
 #[no_mangle]
 pub unsafe extern "C" fn rattle_dealloc(block: *mut u8) {
-    let whole = block.sub(HEAD);
-    let size = whole.cast::<usize>().read();
-    TAKEN.fetch_sub(size, SeqCst);
-    dealloc(whole, layout(size));
+    TAKEN.fetch_sub(1, SeqCst);
+    free(block);
 }
 
 /// # Safety
 ///
-/// `block` comes from `rattle_alloc`, and is not used again if the call returns a new one.
+/// `block` comes from `rattle_alloc`, and is not used again.
 #[no_mangle]
 pub unsafe extern "C" fn rattle_realloc(
     block: *mut u8,
-    kept: usize,
+    _kept: usize,
     size: usize,
-    align: usize,
+    _align: usize,
 ) -> Taken {
-    let taken = rattle_alloc(size, align);
-    taken.at.copy_from_nonoverlapping(block, kept);
-    rattle_dealloc(block);
-    taken
-}
-
-fn begun() -> Result<Terminal, Error> {
-    let mut terminal = Terminal::new()?;
-    terminal.begin(Operation::Get(0x5F20))?;
-    Ok(terminal)
-}
-
-fn session() -> Result<Session, Error> {
-    let mut builder = CardBuilder::new()?;
-    builder.app(b"OTHER")?;
-    builder.object(0x5F20, b"JOE")?;
-    Session::start(builder.finish()?)
-}
-
-fn gives_back<T>(made: impl FnOnce() -> Result<T, Error>) {
-    let made = made().expect("memory");
-    assert!(TAKEN.load(SeqCst) > 0);
-    drop(made);
-    assert_eq!(TAKEN.load(SeqCst), 0);
+    taken(realloc(block, size.max(1)))
 }
 
 #[test]
 fn handles_give_back_what_they_took() {
-    gives_back(|| Exchange::start(&[0x00, 0xCA, 0x5F, 0x20, 0x00]));
-    gives_back(begun);
-    gives_back(session);
-    gives_back(|| session()?.end());
+    let mut builder = CardBuilder::new().expect("memory");
+    builder.app(b"OTHER").expect("an application");
+    builder.object(0x5F20, b"JOE").expect("an object");
+    let session = Session::start(builder.finish().expect("a card"));
+    assert!(TAKEN.load(SeqCst) > 0);
+    drop(session);
+    assert_eq!(TAKEN.load(SeqCst), 0);
 }

@@ -1,7 +1,7 @@
 //! Tests a card of an application of your own, by each way to its line. Answers are by ISO/IEC
 //! 7816-3 and 7816-4 and the rules of the card.
 
-use galliumtoad::{Application, CardT1, Command, Edc, Error, OwnCard, Response, Status};
+use galliumtoad::{Application, CardT1, Command, Edc, Error, Exchange, OwnCard, Response, Status};
 use galliumtoad::{T1Limits, Turn, BLOCK_LIMIT, T1};
 use std::cell::{Cell, RefCell};
 use std::panic::{catch_unwind, set_hook, take_hook, AssertUnwindSafe};
@@ -85,13 +85,9 @@ impl Application for Probe {
 
 type Own = OwnCard<Probe>;
 
-fn probe() -> Probe {
-    let (steps, fails) = (Vec::new().into(), Fails::Nowhere.into());
-    Probe { steps, fails }
-}
-
 fn own() -> Own {
-    OwnCard::new(probe()).expect("memory")
+    let (steps, fails) = (Vec::new().into(), Fails::Nowhere.into());
+    OwnCard::new(Probe { steps, fails }).expect("memory")
 }
 
 /// What reached the application since the last call, without headers.
@@ -131,55 +127,26 @@ fn by_characters() {
             (b"\x00\xC0\x00\x00\x01", 4, 5, 0x9000, vec![]),
             (b"\x00\xA4\x00\x10\x03ABC", 0, 0, 0x6110, selected),
             (b"\x00\x1A\x12\x34\x00", 0, 0, 0x6D00, done(none, b"", 256)),
-            (b"\x00\x60\x00\x00\x02", 0, 0, 0x6D00, vec![]),
         ],
     );
 }
 
-/// Passes a TPDU by characters, as a terminal at T=0 does.
-fn talked(card: &mut Own, tpdu: &[u8]) -> Vec<u8> {
-    let mut data = Vec::new();
-    let mut header = tpdu.to_vec();
-    header.resize(header.len().max(5), 0);
-    let (head, mut left) = header.split_at(5);
-    assert_eq!(one(card), None);
-    assert_eq!(card.receive_bytes(head), Ok(()));
-    let mut asked = match head[4] {
-        0 => 256,
-        p3 => p3.into(),
-    };
+/// Passes a command by characters: one TPDU, if it wants no more than comes.
+fn talked(card: &mut Own, command: &[u8]) -> Vec<u8> {
+    let mut terminal = Exchange::start(command).expect("memory");
     loop {
-        let byte = one(card).expect("a procedure byte");
-        let is_one = match byte {
-            0x60 => continue,
-            it if it == head[1] => false,
-            it if it == head[1] ^ 0xFF => true,
-            sw1 => {
-                data.extend([sw1, one(card).expect("SW2")]);
-                assert_eq!(one(card), None);
-                return data;
-            }
-        };
-        if left.is_empty() {
-            let count = if is_one { 1 } else { asked };
-            data.extend((0..count).map(|_| one(card).expect("a byte")));
-            asked -= count;
-        } else {
-            let (front, rest) = left.split_at(if is_one { 1 } else { left.len() });
-            assert_eq!(card.receive_bytes(front), Ok(()));
-            left = rest;
+        match terminal.turn().expect("an exchange") {
+            Turn::Sends(byte) => card.take(byte).expect("listens"),
+            Turn::Done => break,
+            Turn::Listens => match card.turn().expect("a card") {
+                Turn::Sends(byte) => terminal.take(byte).expect("listens"),
+                _ => panic!("both ends wait"),
+            },
         }
     }
-}
-
-fn one(card: &mut Own) -> Option<u8> {
-    match card.turn().expect("a card") {
-        Turn::Sends(byte) => Some(byte),
-        turn => {
-            assert_eq!(turn, Turn::Listens);
-            None
-        }
-    }
+    assert_eq!(card.turn(), Ok(Turn::Listens));
+    let answer = terminal.answer().expect("an answer");
+    [&answer.data[..], &answer.status.0.to_be_bytes()].concat()
 }
 
 /// By whole commands a command settles at once.
@@ -204,6 +171,7 @@ fn by_commands() {
     let mut card = own();
     by_whole(|command| (card.apdu(command).expect("a command"), steps(&card)));
     assert_eq!(card.apdu(b"\x00\x60\x00\x00"), Err(Error::InvalidIns));
+    assert_eq!(card.tpdu(b"\x00\x60\x00\x00\x02"), Ok(vec![0x6D, 0x00]));
     assert_eq!(steps(&card), []);
 }
 
@@ -253,9 +221,6 @@ fn deadlocks() {
     steps(&card);
     assert_eq!(card.tpdu(b"\x00\xC0\x00\x00\x01A"), Err(Error::SendsData));
     assert_eq!(steps(&card), [Reset]);
-    let answer = card.apdu(b"\x00\xB0\x00\x01\x00");
-    assert_eq!(answer, Ok(b"\x03\x90\x00".to_vec()));
-    assert_eq!(steps(&card), done([0, 0xB0, 0, 1], b"", 256));
 }
 
 /// A command settles with SW2 of its TPDU, and a reset before that drops it.
@@ -272,8 +237,6 @@ fn settling() {
             let mut card = own();
             card.receive_bytes(tpdu).expect("listens");
             // a refused call asks nothing of the application
-            let refused = card.receive_bytes(b"\x00").expect_err("a command waits");
-            assert_eq!((refused.taken, refused.error), (0, Error::NotListening));
             assert_eq!(card.take(0x00), Err(Error::NotListening));
             assert_eq!(steps(&card), []);
             let mut room = [0; 9];
@@ -323,9 +286,11 @@ fn panics() {
     drop(take_hook());
 }
 
-/// The ways of a command at a card.
-fn calls() -> [fn(&mut Own, &[u8]) -> Result<(), Error>; 4] {
-    let by_characters: fn(&mut Own, &[u8]) -> Result<(), Error> = |card, command| {
+/// A way of a command at a card.
+type Way = fn(&mut Own, &[u8]) -> Result<(), Error>;
+
+fn calls() -> [Way; 4] {
+    let by_characters: Way = |card, command| {
         card.receive_bytes(command).expect("listens");
         while card.turn()? != Turn::Listens {}
         Ok(())

@@ -1,7 +1,10 @@
-//! Tests a line at T=1 as a transport: its blocks, times and faults, by ISO/IEC 7816-3, clause 11.
+//! Tests both ends at T=1, and a line as a transport: its blocks, times and faults, by ISO/IEC
+//! 7816-3, clause 11.
 
-use galliumtoad::{Edc, Error, Level, Line, Operation, Outcome, RunError};
-use galliumtoad::{T1Fault, T1Limits, T1Line, T1Waits, Terminal, Transport, BLOCK_LIMIT, T1};
+use galliumtoad::{CardBuilder, CardT1, Cause, Edc, Error, Level, Line, Operation, Outcome};
+use galliumtoad::{
+    RunError, T1Fault, T1Limits, T1Line, T1Waits, Terminal, Transport, BLOCK_LIMIT, T1,
+};
 use std::collections::VecDeque;
 use std::time::Duration;
 
@@ -160,52 +163,95 @@ fn a_line_that_fails_ends_the_command() {
     assert!(matches!(found, Err(RunError::Transport(it)) if it.to_string() == "no cable"));
     assert_eq!(response(&mut line), Err(Error::State.to_string()));
     // more bytes than there is room for
-    struct Claims;
-    impl Line for Claims {
-        type Error = Fault;
-        fn send(&mut self, _: &[u8]) -> Result<(), Fault> {
-            Ok(())
+    let mut claims = reads(|room, wait| {
+        if wait == WAITS.guard {
+            0
+        } else {
+            room.len() + 1
         }
-        fn receive(&mut self, room: &mut [u8], wait: Duration) -> Result<usize, Fault> {
-            let late = wait == WAITS.guard;
-            Ok(if late { 0 } else { room.len() + 1 })
-        }
+    });
+    assert_eq!(response(&mut claims), Err(Error::TooMany.to_string()));
+}
+
+/// A line that takes all, and reads as this function says.
+struct Reads<F>(F);
+
+impl<F: FnMut(&mut [u8], Duration) -> usize> Line for Reads<F> {
+    type Error = Fault;
+
+    fn send(&mut self, _: &[u8]) -> Result<(), Fault> {
+        Ok(())
     }
-    let found = response(&mut T1Line::new(end(), WAITS, Claims));
-    assert_eq!(found, Err(Error::TooMany.to_string()));
+
+    fn receive(&mut self, room: &mut [u8], wait: Duration) -> Result<usize, Fault> {
+        Ok(self.0(room, wait))
+    }
+}
+
+fn reads<F: FnMut(&mut [u8], Duration) -> usize>(reads: F) -> T1Line<Reads<F>> {
+    T1Line::new(end(), WAITS, Reads(reads))
 }
 
 /// A line that is never quiet, and whose bytes are no block, ends in a fault too.
 #[test]
 fn noise_is_given_up() {
-    struct Noise(usize);
-    impl Line for Noise {
-        type Error = Fault;
-        fn send(&mut self, _: &[u8]) -> Result<(), Fault> {
-            Ok(())
-        }
-        fn receive(&mut self, room: &mut [u8], _: Duration) -> Result<usize, Fault> {
-            room[0] = 0xFF;
-            self.0 += 1;
-            assert!(self.0 < 10_000, "it ends");
-            Ok(1)
-        }
-    }
-    let long = T1Waits {
-        block: Duration::MAX,
-        ..WAITS
-    };
-    let mut line = T1Line::new(end(), long, Noise(0));
+    let mut count = 0;
+    let mut line = reads(|room, _| {
+        room[0] = 0xFF;
+        count += 1;
+        assert!(count < 10_000, "it ends");
+        1
+    });
+    line.waits.block = Duration::MAX;
     let fault = line.transmit(GET, &mut [0; 258]).expect_err("a fault");
     let fault = fault.downcast_ref::<T1Fault>().expect("the end's fault");
     assert_ne!(fault.outcome, Outcome::InPart);
 }
 
-/// Seven times a very long BWT is no overflow.
+/// R with 1 after a wrong parity, with 2 after a time-out. After a reset there is nothing to send.
 #[test]
-fn a_wait_may_be_of_any_length() {
-    let [more, answer] = [block(0xC3, b"\x07"), block(0x00, b"\x90\x00")];
-    let mut line = line(&[&ifs(), &more, &answer], 300);
-    line.waits.block = Duration::MAX;
-    assert_eq!(response(&mut line), Ok(b"\x90\x00".to_vec()));
+fn both_ends_say_why_they_ask_again() {
+    let mut room = [0; BLOCK_LIMIT];
+    let builder = CardBuilder::new().expect("memory");
+    let mut card = CardT1::new(builder.finish().expect("a card")).expect("a card");
+    for (is_damaged, pcb) in [(false, 0x82), (true, 0x81)] {
+        assert_eq!(card.block_into(&mut room), Ok(None));
+        let told = if is_damaged {
+            card.damaged()
+        } else {
+            card.missed()
+        };
+        assert_eq!(told, Ok(()));
+        let count = card.block_into(&mut room).expect("memory");
+        assert_eq!(room[..count.expect("a block")], block(pcb, b""));
+        assert_eq!(card.reset(), Ok(()));
+    }
+    let mut end = end();
+    end.begin(GET).expect("memory");
+    assert!(end.receive(&ifs()).expect("memory").is_whole);
+    assert_eq!(end.damaged(), Ok(()));
+    let sent = end.block_into(&mut room).expect("memory");
+    assert_eq!(room[..sent.expect("a block").count], block(0x81, b""));
+}
+
+/// An end keeps to its limits, and takes what is within. Seven times a long BWT is no overflow.
+#[test]
+fn an_end_has_limits() {
+    let [more, answer] = [block(0xC3, b"\x07"), block(0x00, b"A\x90\x00")];
+    for (extensions, longest, cause) in [
+        (1, 3, None),
+        (0, 3, Some(Cause::ExtensionsSpent)),
+        (1, 2, Some(Cause::TooLong)),
+    ] {
+        let mut line = line(&[&ifs(), &more, &answer], 300);
+        let limits = T1Limits {
+            extensions,
+            response: longest,
+            ..T1Limits::default()
+        };
+        line.end = T1::new(Edc::Lrc, 32, limits).expect("an end");
+        line.waits.block = Duration::MAX;
+        assert_eq!(response(&mut line).is_ok(), cause.is_none());
+        assert_eq!(line.end.fault().map(|it| it.cause), cause);
+    }
 }

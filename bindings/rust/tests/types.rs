@@ -39,19 +39,9 @@ fn statuses_are_numbers() {
     assert_eq!(shown, "6C1A 0007 Status(6C1A) 6C1A 0007 0x7");
 }
 
-/// A status as an error, in a chain of `?`.
+/// Each status except 9000 is an error. An answer has the error of its status.
 #[test]
 fn refusals_are_errors() {
-    fn locked(session: &mut Session) -> Result<(), Box<dyn Cause>> {
-        session.put(0x5F20, b"")?.ok()?;
-        session.put(0x50, b"A")?.ok()?;
-        panic!("the object is locked")
-    }
-    let fault = locked(&mut session()).expect_err("6982");
-    assert_eq!(fault.to_string(), "6982: security status not satisfied");
-    assert!(fault.source().is_none());
-    let refused = fault.downcast_ref::<Refused>().expect("a status");
-    assert_eq!(refused.status, 0x6982);
     for word in 0..=0xFFFF {
         let wanted = if word == 0x9000 { Ok(()) } else { Err(word) };
         assert_eq!(Status(word).ok().map_err(|it| it.status.0), wanted);
@@ -59,10 +49,9 @@ fn refusals_are_errors() {
     let mut session = session();
     let answer = session.get(0x5F20).expect("an answer");
     assert_eq!(answer.clone().ok(), Ok(answer));
-    let part = session
-        .send(&[0x00, 0xCA, 0x5F, 0x20, 0x02])
-        .expect("an answer");
-    assert_eq!(part.ok().map_err(|it| it.status.0), Err(0x6104));
+    let part = session.send(b"\x00\xCA\x5F\x20\x02");
+    let refused = part.expect("an answer").ok().expect_err("6104");
+    assert_eq!(refused.status, 0x6104);
 }
 
 /// CLA and INS of a command, a status after it, and what that means.
@@ -99,13 +88,9 @@ fn statuses_have_words() {
     assert_eq!(Status(0x63C2).text(), "a warning: a counter is at X");
 }
 
-fn shown(value: &impl fmt::Debug) -> String {
-    format!("{value:?} {value:#?}")
-}
-
 /// `Debug` shows something, but no byte of the secret, in hexadecimal or decimal.
 fn hides(value: &impl fmt::Debug, wanted: &str) {
-    let shown = shown(value);
+    let shown = format!("{value:?} {value:#?}");
     assert!(shown.starts_with(wanted), "{shown}");
     for byte in SECRET {
         for text in [format!("{byte:X}"), format!("{byte:x}"), format!("{byte}")] {
@@ -177,31 +162,22 @@ fn debug_shows_no_secret() {
     );
 }
 
+/// Data of a card, and whether they are one object with the tag 50: the object, with other bytes
+/// around it, and the value alone.
 #[test]
 fn an_answer_is_one_object_or_not() {
-    let mut session = session();
-    let answer = session.get(0x5F20).expect("an answer");
-    let object = answer.object(0x5F20).expect("the object");
-    assert_eq!((object.tag, object.place, object.size), (0x5F20, 0, 6));
-    assert_eq!(object.value, SECRET);
-    assert_eq!(answer.object(0x50), None);
-    assert_eq!(answer.object(0x5F), None);
-    let empty = session.get(0x50).expect("an answer");
-    assert_eq!(empty.object(0x50).expect("the object").value, b"");
-    let missing = session.get(0x51).expect("an answer");
-    assert_eq!(missing.object(0x51), None);
-    // possible answers of a card: the object, with other bytes around it, and the value alone
-    for (data, is_one) in [
-        (&b"\x50\x01A"[..], true),
-        (b"\x50\x81\x01A", true),
-        (b"\x00\x50\x01A", false),
-        (b"\x50\x01A\x00", false),
-        (b"\x50\x01A\x50\x01A", false),
-        (b"\x51\x00\x50\x01A", false),
-        (b"\x70\x03\x50\x01A", false),
-        (b"\x50\x02A", false),
-        (b"A", false),
-        (b"", false),
+    for (data, value) in [
+        (&b"\x50\x01A"[..], Some(&b"A"[..])),
+        (b"\x50\x81\x01A", Some(b"A")),
+        (b"\x50\x00", Some(b"")),
+        (b"\x00\x50\x01A", None),
+        (b"\x50\x01A\x00", None),
+        (b"\x50\x01A\x50\x01A", None),
+        (b"\x51\x00\x50\x01A", None),
+        (b"\x70\x03\x50\x01A", None),
+        (b"\x50\x02A", None),
+        (b"A", None),
+        (b"", None),
     ] {
         let mut reader = |_: &[u8], answer: &mut [u8]| {
             answer[..data.len()].copy_from_slice(data);
@@ -211,7 +187,9 @@ fn an_answer_is_one_object_or_not() {
         let mut terminal = Terminal::new().expect("memory");
         let answer = terminal.run(&mut reader, Operation::Get(0x50));
         let answer = answer.expect("an answer");
-        assert_eq!(answer.object(0x50).is_some(), is_one, "{data:02X?}");
+        let found = answer.object(0x50).map(|it| it.value);
+        assert_eq!(found, value, "{data:02X?}");
+        assert_eq!(answer.object(0x5F), None, "no tag");
     }
 }
 
@@ -233,6 +211,8 @@ fn a_cause_is_told_once() {
     assert_eq!(chain(&RunError::Transport(gone)), causes);
     let refused: RunError<fmt::Error> = Error::Stalled.into();
     assert_eq!(chain(&refused), ["stalled"]);
+    let refused = Status(0x6982).ok().expect_err("a status");
+    assert_eq!(chain(&refused), ["6982: security status not satisfied"]);
     let fault = find(&[0x50], &[0x50]).expect_err("a fault");
     assert_eq!(chain(&fault), ["length cut at 0"]);
     let fault = Atr::read(b"\x3A").expect_err("a fault");

@@ -5,11 +5,12 @@
 #![cfg(not(feature = "own-memory"))]
 
 use galliumtoad::{encode, find, head, Card, CardBuilder, Error, Exchange, Objects, ObjectsError};
-use galliumtoad::{Application, Command, OwnCard, Response, Status, OWN_LIMIT};
+use galliumtoad::{Application, Command, OwnCard, Response, Status};
 use galliumtoad::{Operation, Pps, RunError, Session, Terminal, Turn, TPDU_LIMIT};
 use std::alloc::{GlobalAlloc, Layout, System};
 use std::cell::Cell;
 use std::ffi::c_void;
+use std::fmt::Debug;
 use std::panic::{catch_unwind, AssertUnwindSafe};
 use std::ptr::null_mut;
 use std::sync::atomic::{AtomicUsize, Ordering::SeqCst};
@@ -44,8 +45,6 @@ fn with_zeros(layout: Layout) -> Layout {
 thread_local! {
     /// The bytes that this thread has taken and not freed.
     static TAKEN: Cell<isize> = const { Cell::new(0) };
-    /// Blocks of this size or more are refused.
-    static MOST: Cell<usize> = const { Cell::new(usize::MAX) };
     /// After this number of blocks the next is refused.
     static LEFT: Cell<usize> = const { Cell::new(usize::MAX) };
 }
@@ -55,7 +54,7 @@ struct Looking;
 unsafe impl GlobalAlloc for Looking {
     unsafe fn alloc(&self, layout: Layout) -> *mut u8 {
         let left = LEFT.with(|it| it.replace(it.get().wrapping_sub(1)));
-        if layout.size() >= MOST.with(Cell::get) || left == 0 {
+        if left == 0 {
             return null_mut();
         }
         TAKEN.with(|it| it.set(it.get() + layout.size() as isize));
@@ -228,10 +227,6 @@ fn what_is_left_is_seen() {
 fn a_card_leaves_nothing() {
     let _one = one();
     leaves_nothing(|| drop(card()));
-    leaves_nothing(|| {
-        let mut builder = CardBuilder::new().expect("memory");
-        assert!(builder.object(0x5F20, &SECRET).is_err());
-    });
     // a second call would overwrite what the first leaves, so each has its own stack
     for ask in [Card::tpdu, Card::apdu] {
         leaves_nothing(|| {
@@ -252,7 +247,6 @@ fn a_card_leaves_nothing() {
         for entry in card.entries(0) {
             own(entry.value, true);
         }
-        card.reset().expect("a reset");
     });
 }
 
@@ -334,26 +328,6 @@ fn an_exchange_leaves_nothing() {
     });
 }
 
-/// A terminal frees its copy of a value for a longer one, and the last copy at its end, even if the
-/// last value was shorter than the secret before it.
-#[test]
-fn what_a_terminal_keeps_is_wiped() {
-    let _one = one();
-    let secret = [b"PIN ", SECRET.as_slice()].concat();
-    leaves_nothing(|| {
-        let mut terminal = Terminal::new().expect("a terminal");
-        for value in [&secret, b"JOE".as_slice(), &[0; 40], &secret, b"ANN"] {
-            let put = Operation::Put(0x5F20, value);
-            terminal.begin(put).expect("begun");
-            drop(terminal.tpdu().expect("memory").expect("due"));
-            terminal.answered(&[0x90, 0x00]).expect("an answer");
-        }
-        let put = Operation::Put(0x50, &secret);
-        terminal.begin(put).expect("begun");
-        terminal.reset().expect("a reset");
-    });
-}
-
 /// Puts and gets ten values over a transport, over one that fails, and over one that panics.
 #[test]
 fn a_transport_leaves_nothing() {
@@ -368,8 +342,6 @@ fn a_transport_leaves_nothing() {
             assert!(run(Operation::Put(0x5F20, &SECRET)).status.is_ok());
         }
         own(run(Operation::Get(0x5F20)).data, true);
-        assert!(run(Operation::Send(&PUT)).status.is_ok());
-        own(run(Operation::Send(&GET)).data, true);
         let mut room = vec![0; 19];
         assert_eq!(terminal.answer_into(&mut room).expect("one").count, 19);
         own(room, true);
@@ -397,8 +369,6 @@ fn a_transport_leaves_nothing() {
     leaves_nothing(|| panics(&SECRET));
 }
 
-/// The value of an object is replaced during a session, and each block that grows on the way is
-/// freed.
 #[test]
 fn a_session_leaves_nothing() {
     let _one = one();
@@ -408,7 +378,7 @@ fn a_session_leaves_nothing() {
         session.listen().expect("somebody listens");
         assert_eq!(session.select(&AID).expect("an answer").status, 0x9000);
         assert!(session.put(0x5F20, &SECRET).expect("an answer").is_ok());
-        let mut heard = session.heard().expect("memory");
+        let mut heard = at_last(Error::Buffer, || session.heard());
         assert_eq!(heard.len(), 8 + 16);
         for (_, byte) in &mut heard {
             *byte = 0;
@@ -420,15 +390,9 @@ fn a_session_leaves_nothing() {
         let mut room = vec![0; 19];
         assert_eq!(session.answer_into(&mut room).expect("one").count, 19);
         own(room, true);
-        own(session.send(&PUT).expect("an answer").data, false);
         own(session.send(&GET).expect("an answer").data, true);
-        for entry in session.entries(0) {
-            own(entry.value, true);
-        }
-        assert!(session.put(0x5F20, b"ANN").expect("an answer").is_ok());
+        // a block that grows on the way
         assert!(session.put(0x5F21, &long).expect("an answer").is_ok());
-        assert_eq!(session.put(0x50, &SECRET).expect("an answer"), 0x6982);
-        session.reset().expect("a reset");
         drop(session.end().expect("the card"));
     });
 }
@@ -448,37 +412,20 @@ fn objects_leave_nothing() {
     });
 }
 
-/// A list without memory for it is an error, and the program continues.
-#[test]
-fn a_list_without_memory_is_refused() {
-    let _one = one();
-    let list = [0x50, 0x00].repeat(30_000);
-    let before = TAKEN.with(Cell::get);
-    MOST.with(|it| it.set(1_000_000));
-    let refused = Objects::over(&list).map(|it| it.count());
-    let fits = Objects::over(&list[..40_000]).map(|it| it.count());
-    MOST.with(|it| it.set(usize::MAX));
-    assert_eq!(refused, Err(ObjectsError::Memory));
-    assert_eq!(ObjectsError::Memory.to_string(), "out of memory");
-    assert_eq!(fits, Ok(20_000));
-    assert_eq!(Objects::over(&list).map(|it| it.count()), Ok(30_000));
-    assert_eq!(TAKEN.with(Cell::get), before);
-}
-
-/// Runs `run` while no block of this size or more is to be had.
-fn without<T>(size: usize, run: impl FnOnce() -> T) -> T {
-    MOST.with(|it| it.set(size));
-    let made = run();
-    MOST.with(|it| it.set(usize::MAX));
-    made
-}
-
-/// Runs `run` while there is this number of blocks, and no further one.
-fn with_blocks<T>(count: usize, run: impl FnOnce() -> T) -> T {
-    LEFT.with(|it| it.set(count));
-    let made = run();
-    LEFT.with(|it| it.set(usize::MAX));
-    made
+/// Runs `run` while the first block of memory is refused, the second, and so on, until none is.
+/// Each fault is this one, and there is one.
+#[track_caller]
+fn at_last<T, E: Debug + PartialEq>(fault: E, mut run: impl FnMut() -> Result<T, E>) -> T {
+    for blocks in 0.. {
+        LEFT.with(|it| it.set(blocks));
+        let made = run();
+        LEFT.with(|it| it.set(usize::MAX));
+        match made {
+            Ok(made) if blocks > 0 => return made,
+            made => assert_eq!(made.err().as_ref(), Some(&fault)),
+        }
+    }
+    unreachable!()
 }
 
 /// An answer without memory for its data is an error that says so, and stays: the operation was
@@ -486,43 +433,30 @@ fn with_blocks<T>(count: usize, run: impl FnOnce() -> T) -> T {
 #[test]
 fn an_answer_without_memory_stays() {
     let _one = one();
-    let object = [b"\x5F\x20\x82\x01\x2C", &[0x41; 300][..]].concat();
-    let mut card = card();
-    let mut reader = |tpdu: &[u8], answer: &mut [u8]| card.tpdu_into(tpdu, answer);
     let mut terminal = Terminal::new().expect("memory");
-    let put = Operation::Put(0x5F20, &object[5..]);
-    for operation in [Operation::Select(&AID), put] {
-        let answer = terminal.run(&mut reader, operation);
-        assert_eq!(answer.expect("an answer").status, 0x9000);
-    }
-    let get = Operation::Get(0x5F20);
-    let found = without(305, || terminal.run(&mut reader, get));
-    assert_eq!(found, Err(RunError::Terminal(Error::Buffer)));
-    assert_eq!(without(305, || terminal.answer()), Err(Error::Buffer));
-    assert_eq!(terminal.answer().expect("the answer").data, object);
-    // the smallest block that is refused is one of 305 bytes
-    let found = without(306, || terminal.run(&mut reader, get));
-    assert_eq!(found.expect("an answer").data, object);
-    let mut session = Session::start(card).expect("a session");
-    session.listen().expect("somebody listens");
+    let mut reader = |_: &[u8], answer: &mut [u8]| {
+        answer[..21].copy_from_slice(&FOUND_OBJECT);
+        Ok::<usize, ()>(21)
+    };
+    let (get, buffer) = (Operation::Send(&GET), RunError::Terminal(Error::Buffer));
+    let first = terminal.run(&mut reader, get);
+    assert!(first.is_ok(), "which takes room for the next");
+    let answer = at_last(buffer, || {
+        let found = terminal.run(&mut reader, get);
+        assert!(terminal.answer_into(&mut [0; 19]).is_ok());
+        found
+    });
+    assert_eq!(answer.data, FOUND_OBJECT[..19]);
+    assert_eq!(at_last(Error::Buffer, || terminal.answer()), answer);
+    let mut session = Session::start(card()).expect("a session");
     assert_eq!(session.select(&AID).expect("an answer").status, 0x9000);
-    // the room of the record of characters is taken by the first of these
-    for _ in 0..2 {
-        assert_eq!(session.get(0x5F20).expect("an answer").data, object);
-    }
-    let get = [0x00, 0xCA, 0x5F, 0x20, 0x00];
-    assert_eq!(without(305, || session.get(0x5F20)), Err(Error::Buffer));
-    assert_eq!(session.answer().expect("the answer").data, object);
-    assert_eq!(without(305, || session.send(&get)), Err(Error::Buffer));
-    assert_eq!(session.answer().expect("the answer").data, object);
-    // memory ran out while that one was noted
-    assert_eq!(session.heard(), Err(Error::Memory));
-    assert_eq!(session.get(0x5F20).expect("an answer").data, object);
-    // GET DATA, 256 bytes and 6131, GET RESPONSE, 49 bytes and 9000, with two procedure bytes: each
-    // takes two bytes of memory
-    assert_eq!(without(642, || session.heard()), Err(Error::Buffer));
-    assert_eq!(with_blocks(1, || session.heard()), Err(Error::Buffer));
-    assert_eq!(session.heard().expect("memory").len(), 264 + 57);
+    let answer = at_last(Error::Buffer, || session.get(0x5F20));
+    assert_eq!(answer.data, FOUND_OBJECT[..19]);
+    assert_eq!(at_last(Error::Buffer, || session.answer()), answer);
+    session.listen().expect("somebody listens");
+    assert!(session.send(&GET).is_ok());
+    let heard = at_last(Error::Buffer, || session.heard());
+    assert_eq!(heard.len(), GET.len() + 1 + FOUND_OBJECT.len());
 }
 
 /// What takes memory before anything is sent or done changes nothing without it.
@@ -530,35 +464,25 @@ fn an_answer_without_memory_stays() {
 fn without_memory_nothing_is_done() {
     let _one = one();
     let exchange = Exchange::start(&PUT).expect("memory");
-    assert_eq!(without(1, || exchange.tpdu()), Err(Error::Memory));
-    assert_eq!(exchange.tpdu().expect("memory").expect("due").bytes, PUT);
-    assert_eq!(without(1, || exchange.apdu()), Err(Error::Memory));
-    assert_eq!(exchange.apdu().expect("memory").expect("due").bytes, PUT);
+    for pdu in [Exchange::tpdu, Exchange::apdu] {
+        let due = at_last(Error::Memory, || pdu(&exchange));
+        assert_eq!(due.expect("due").bytes, PUT);
+    }
     let mut card = card();
     for ask in [Card::tpdu, Card::apdu] {
-        assert_eq!(without(258, || ask(&mut card, &SELECT)), Err(Error::Memory));
-        assert_eq!(card.selected(), None);
-        assert_eq!(ask(&mut card, &SELECT), Ok(vec![0x61, 0x0B]));
+        let answer = at_last(Error::Memory, || ask(&mut card, &SELECT));
+        assert_eq!(answer, [0x61, 0x0B]);
         card.reset().expect("a reset");
     }
-    let made = without(OWN_LIMIT, || OwnCard::new(Echo(false)).map(drop));
-    assert_eq!(made, Err(Error::Memory));
-    let made = with_blocks(1, || OwnCard::new(Echo(false)).map(drop));
-    assert_eq!(made, Err(Error::Memory));
-    let value = [0x41; 300];
-    let found = without(303, || encode(0x5F20, &[&value]).map(|it| it.len()));
-    assert_eq!(found, Err(ObjectsError::Memory));
-    assert_eq!(encode(0x5F20, &[&value]).map(|it| it.len()), Ok(305));
-    let found = with_blocks(0, || encode(0x50, &[b"A"]).map(drop));
-    assert_eq!(found, Err(ObjectsError::Memory));
-    let agreed = with_blocks(0, || Pps::default().agreed(b"\xFF\x00\xFF"));
+    drop(at_last(Error::Memory, || OwnCard::new(Echo(false))));
+    let memory = ObjectsError::Memory;
+    assert_eq!(memory.to_string(), "out of memory");
+    let object = at_last(memory, || encode(0x70, &[b"\x50\x00"]));
+    let list = at_last(memory, || Objects::over(&object));
+    let template = list.clone().next().expect("one");
+    assert_eq!(at_last(memory, || template.children()).count(), 1);
+    LEFT.with(|it| it.set(0));
+    let agreed = Pps::default().agreed(b"\xFF\x00\xFF");
+    LEFT.with(|it| it.set(usize::MAX));
     assert_eq!(agreed, Ok(true));
-    let list = Objects::over(b"\x70\x02\x50\x00").expect("objects").next();
-    let children = list.expect("one");
-    for blocks in [0, 1] {
-        let found = with_blocks(blocks, || children.children().map(|it| it.count()));
-        assert_eq!(found, Err(ObjectsError::Memory));
-    }
-    let found = with_blocks(2, || children.children().map(|it| it.count()));
-    assert_eq!(found, Ok(1));
 }

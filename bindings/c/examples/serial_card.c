@@ -9,7 +9,6 @@
 #include "table.h"
 #include "text.h"
 
-#include <errno.h>
 #include <string.h>
 
 /* Microseconds between two looks at the line of a reset, and at whether a pseudo terminal was
@@ -22,9 +21,6 @@ enum { PPSS = 0xFF, HAS_PPS1 = 0x10, PROTOCOL = 0x0F };
 
 /* No limit on what 61XX announces. */
 enum { PLAN_CUT = 256 };
-
-/* The clock cycles of an etu at a reset, and the code of that rate. */
-enum { RESET_CYCLES = 372, RATE_OF_RESET = 0x11 };
 
 /* the lines of serial_card.help */
 static const char HELP[] =
@@ -135,7 +131,7 @@ static const char *send_all(const struct socket *socket, const uint8_t *bytes, s
 /* Sets the card's own rate, or that of a reset. */
 static const char *set_rate(const struct socket *socket, bool is_of_card)
 {
-    const unsigned long clock = socket->baud * RESET_CYCLES;
+    const unsigned long clock = socket->baud * ANSWER_CYCLES;
     return line_set(socket->line,
                     is_of_card ? clock * socket->says->di / socket->says->fi : socket->baud);
 }
@@ -305,7 +301,7 @@ static const char *receive_block(struct line *line, const struct t1_times *times
 static const char *talk_t1(const struct socket *socket, uint8_t byte)
 {
     const struct t1_times times =
-        t1_times_of(socket->line, &socket->says->t1, socket->baud * RESET_CYCLES);
+        t1_times_of(socket->line, &socket->says->t1, socket->baud * ANSWER_CYCLES);
     const int32_t code = gt_card_t1_begin(&socket->table->card);
     const char *what = code == GT_OK ? NULL : gt_text(code);
     while (what == NULL || what == LINE_HAS_WRONG_PARITY) {
@@ -384,15 +380,12 @@ static int open_and_serve(struct table *table, const gt_atr *says, const char *t
 /* Reads the table's answer to reset, which has to offer T=0 or T=1. */
 static const char *read_answer(const struct table *table, gt_atr *says)
 {
-    static char text[96];
     size_t place = 0;
     const int32_t code = gt_atr_read(table->atr, table->atr_size, says, &place);
     const int protocol = code == GT_OK ? answer_protocol(says, ANSWER_FIRST) : 0;
-    if (code != GT_OK) {
-        snprintf(text, sizeof text, "the table's answer to reset is invalid: %s, at byte %lu",
-                 gt_text(code), (unsigned long)place + 1);
-        return text;
-    }
+    if (code != GT_OK)
+        return text_told("the table's answer to reset is invalid: %s, at byte %lu", gt_text(code),
+                         (unsigned long)place + 1);
     if (!speaks(says, protocol)
             || (says->specific && (says->implicit || says->fi == 0 || says->di == 0)))
         return "the table's answer to reset does not offer T=0, or T=1 with LRC, at a rate that"
@@ -431,14 +424,9 @@ static int run(char *const *words, size_t count)
                                              : "no tty or no table was provided");
     name = words[wanted - 1];
     file = fopen(name, "r");
-    if (file == NULL) {
-        const int why = errno;
-        text_print(stderr, name);
-        fprintf(stderr, ": %s\n", strerror(why));
-        return FAULT;
-    }
     code = table_read(file, name, &table);
-    fclose(file);
+    if (file != NULL)
+        fclose(file);
     if (code != GT_OK)
         return FAULT;
     fault = read_answer(&table, &says);

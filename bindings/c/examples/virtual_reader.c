@@ -52,26 +52,20 @@ struct virtual_reader {
 
 static struct virtual_reader readers[READERS_LIMIT];
 
-/* The reader with this number, or NULL. */
-static struct virtual_reader *reader_of(DWORD lun)
+/* The reader in use with this number, or a free one, whose number is 0; or NULL. */
+static struct virtual_reader *find_reader(int is_used, DWORD lun)
 {
     size_t i;
     for (i = 0; i < READERS_LIMIT; i++) {
-        if (readers[i].is_used && readers[i].lun == lun)
+        if (readers[i].is_used == is_used && readers[i].lun == lun)
             return &readers[i];
     }
     return NULL;
 }
 
-/* One that has no number yet, or NULL. */
-static struct virtual_reader *free_reader(void)
+static struct virtual_reader *reader_of(DWORD lun)
 {
-    size_t i;
-    for (i = 0; i < READERS_LIMIT; i++) {
-        if (!readers[i].is_used)
-            return &readers[i];
-    }
-    return NULL;
+    return find_reader(1, lun);
 }
 
 static int is_same(const struct stat *one, const struct stat *other)
@@ -138,7 +132,7 @@ static void look_at_file(struct virtual_reader *reader)
 RESPONSECODE IFDHCreateChannelByName(DWORD Lun, LPSTR DeviceName)
 {
     static const char before[] = "table:";
-    struct virtual_reader *reader = reader_of(Lun) == NULL ? free_reader() : NULL;
+    struct virtual_reader *reader = reader_of(Lun) == NULL ? find_reader(0, 0) : NULL;
     const char *name = DeviceName;
     if (strncmp(name, before, sizeof before - 1) == 0)
         name += sizeof before - 1;

@@ -1,6 +1,6 @@
 /* Runs the book of examples: each script by every way from a terminal to a card and in a session,
- * the characters to a card alone, and the dialogues of a terminal at T=1. What they print is stored
- * beside them. */
+ * and the characters to a card alone. What they print is stored beside them. checks/serial plays
+ * the book's dialogues of a terminal at T=1. */
 #include "galliumtoad.h"
 #include "check.h"
 
@@ -323,7 +323,7 @@ static void play(const char *name) {
     gt_t1_free(&end);
 }
 
-/* ---- A card alone, and a terminal at T=1 ----------------------------------------------------- */
+/* ---- A card alone ---------------------------------------------------------------------------- */
 
 static void of_card(char *words[3]) {
     size_t n = 0;
@@ -367,95 +367,17 @@ static void play_card(const char *name) {
     gt_card_free(&card);
 }
 
-/* Carries the command over the lines of the dialogue: the end sends these blocks, and gets those of
- * the card. `~` is a time above BWT. */
-static int32_t talk(char **at, char *words[3], const uint8_t *command, size_t n) {
-    uint8_t bytes[GT_BLOCK_LIMIT], waits;
-    size_t taken = 0;
-    int32_t code;
-    CHECK(gt_t1_begin(&end, command, n), GT_OK);
-    while ((code = gt_t1_send_bytes(&end, bytes, sizeof bytes, &n, &waits)) == GT_OK) {
-        bool is_late;
-        CHECK(is(words[0], ">") && bytes_of(words[1]) == n && memcmp(value, bytes, n) == 0, 1);
-        (void)next_line(at, words);
-        is_late = is(words[0], "~") && next_line(at, words);
-        if (!is(words[0], "<") || (is_late && waits < 2)) {
-            CHECK(gt_t1_missed(&end), GT_OK);
-            continue;
-        }
-        n = bytes_of(words[1]);
-        CHECK(gt_t1_receive_bytes(&end, value, n, &taken), GT_SENDS);
-        CHECK(taken, n);
-        (void)next_line(at, words);
-    }
-    return code;
-}
-
-static void say_fault(size_t operation) {
-    static const char *const OUTCOMES[] = { "has not", "may have", "has" };
-    int32_t cause = 0, outcome = 0;
-    char line[200];
-    CHECK(gt_t1_fault(&end, &cause, &outcome), GT_OK);
-    snprintf(line, sizeof line, "! operation %d: %s: the card %s carried out the command\n",
-             (int)operation, gt_text(cause), OUTCOMES[outcome]);
-    say(line);
-}
-
-/* Carries out an operation over the dialogue. Returns whether it has its answer. */
-static bool over_t1(char **at, char *words[3], size_t operation) {
-    uint8_t command[GT_APDU_LIMIT];
-    uint16_t status = 0;
-    size_t n = 0, most;
-    while (gt_terminal_apdu(&terminal, command, &n, &most) == GT_OK) {
-        if (talk(at, words, command, n) != GT_DONE) {
-            say_fault(operation);
-            return false;
-        }
-        CHECK(gt_t1_response(&end, data, ROOM, &n), GT_OK);
-        CHECK(gt_terminal_responded(&terminal, data, n), GT_OK);
-    }
-    CHECK(gt_terminal_answer(&terminal, &status, data, ROOM, &n), GT_OK);
-    say_answer(status, n);
-    return true;
-}
-
-/* The operations come first, then the blocks with the answer to reset, and last the results. */
-static void play_talk(const char *name) {
-    static char lines[TEXT];
-    char *at = script, *line = lines, *words[3], *block[3];
-    gt_atr atr;
-    size_t place = 0, operation = 0;
-    read_text(name, "talk", "#<>~=!", script);
-    read_text(name, "talk", "#sgp=!", lines);
-    read_text(name, "talk", "#sgp<>~", wanted);
-    printed_n = 0;
-    CHECK(next_line(&line, block), 1);
-    CHECK(gt_atr_read(value, bytes_of(block[1]), &atr, &place), GT_OK);
-    CHECK(gt_t1_new(&end, atr.t1.edc, atr.t1.ifsc, GT_T1_TRIES, GT_T1_EXTENSIONS, GT_ANSWER_LIMIT),
-          GT_OK);
-    CHECK(gt_terminal_new(&terminal), GT_OK);
-    CHECK(next_line(&line, block), 1);
-    while (next_line(&at, words)) {
-        CHECK(begin(words), GT_OK);
-        if (!over_t1(&line, block, ++operation)) break;
-    }
-    is_printed(name);
-    gt_terminal_free(&terminal);
-    gt_t1_free(&end);
-}
-
 int main(void) {
     char row[400], name[100], ending[5];
-    int plays = 0, cards = 0, talks = 0;
+    int plays = 0, cards = 0;
     FILE *list = fopen(BOOK "/README.md", "r");
     while (list && failed == 0 && fgets(row, sizeof row, list)) {
         if (sscanf(row, "| `%99[a-z0-9_/].%4[a-z]`", name, ending) != 2) continue;
         for (way = 0; way < WAYS && is(ending, "play"); way++) play(name);
         if (is(ending, "play")) plays++;
         if (is(ending, "card")) play_card(name), cards++;
-        if (is(ending, "talk")) play_talk(name), talks++;
     }
     if (list) fclose(list);
-    CHECK(plays > 40 && cards > 10 && talks > 7, 1);
+    CHECK(plays > 40 && cards > 10, 1);
     return check_result("book");
 }

@@ -3,6 +3,7 @@
 #include "galliumtoad.h"
 #include "block.h"
 #include "check.h"
+#include "wrapped_heap.h"
 
 enum { PIECE = 255, LONG = 600, FRONT = 4, FIELD = 254 };
 enum { TAG = 0x5F20, TEMPLATE = 0x70, LOCKED = 0x50 };
@@ -12,7 +13,6 @@ static const uint8_t ANN[] = { 0x41, 0x4E, 0x4E };
 
 /* The value. Each byte follows from the one before it, so any FRONT bytes in a row identify it. */
 static uint8_t secret[GT_VALUE_LIMIT + PIECE];
-static size_t given_back; /* freed blocks that had a piece of the value */
 
 static uint8_t behind(uint8_t byte) {
     return (uint8_t)(byte * 5 + 113);
@@ -34,18 +34,16 @@ static bool has_piece(const unsigned char *at, size_t n) {
     return has_row(at, n, 1) || has_row(at, n, 2);
 }
 
-static void looks_at(const unsigned char *at, size_t n) { given_back += has_piece(at, n); }
-
-#include "wrapped_heap.h"
-
 /* Counts the held blocks that have a piece of the value. */
 static size_t held(void) {
-    size_t i, n = 0;
-    for (i = 0; i < MOST; i++) n += blocks[i].at && has_piece(blocks[i].at, blocks[i].size);
+    const held_block *block;
+    size_t n = 0;
+    for (block = blocks; block; block = block->next)
+        n += has_piece((const unsigned char *)(block + 1), block->size);
     return n;
 }
 
-#define GONE() (CHECK(held(), 0), CHECK(given_back, 0))
+#define GONE() (CHECK(held(), 0), CHECK(not_wiped, 0))
 
 static unsigned tpdu(gt_card *c, const uint8_t *bytes, size_t n) {
     uint8_t answer[GT_ANSWER_LIMIT];
@@ -54,16 +52,19 @@ static unsigned tpdu(gt_card *c, const uint8_t *bytes, size_t n) {
     return len < 2 ? 0 : answer[len - 2] * 256u + answer[len - 1];
 }
 
-/* Sends one piece of a value by PUT DATA, and returns the status. */
-static unsigned piece(gt_card *c, uint8_t cla, unsigned tag, const uint8_t *value, size_t n) {
-    uint8_t bytes[5 + PIECE] = { 0 };
-    bytes[0] = cla;
-    bytes[1] = 0xDA;
-    bytes[2] = (uint8_t)(tag / 256);
-    bytes[3] = (uint8_t)(tag % 256);
-    bytes[4] = (uint8_t)n;
+/* Writes a PUT DATA, and returns its length. */
+static size_t put_data(uint8_t bytes[5 + PIECE], uint8_t cla, unsigned tag, const uint8_t *value,
+                       size_t n) {
+    const uint8_t header[] = { cla, 0xDA, (uint8_t)(tag / 256), (uint8_t)(tag % 256), (uint8_t)n };
+    memcpy(bytes, header, sizeof header);
     memcpy(bytes + 5, value, n);
-    return tpdu(c, bytes, 5 + n);
+    return 5 + n;
+}
+
+/* Sends one piece of a value, and returns the status. */
+static unsigned piece(gt_card *c, uint8_t cla, unsigned tag, const uint8_t *value, size_t n) {
+    uint8_t bytes[5 + PIECE];
+    return tpdu(c, bytes, put_data(bytes, cla, tag, value, n));
 }
 
 /* Sends all pieces of a value except the last. Returns the number of bytes sent. */
@@ -145,9 +146,9 @@ static void in_a_session(gt_card *c) {
 /* Gives the terminal's end at T=1 this block from the card. */
 static void comes(gt_t1 *t, uint8_t pcb, const uint8_t *info, size_t n) {
     uint8_t block[GT_BLOCK_LIMIT];
-    size_t taken = 0;
+    size_t got = 0;
     n = block_of(block, pcb, info, n);
-    CHECK(gt_t1_receive_bytes(t, block, n, &taken), GT_SENDS);
+    CHECK(gt_t1_receive_bytes(t, block, n, &got), GT_SENDS);
 }
 
 /* An end at T=1 whose command was the value, and whose response is 250 bytes of it. */
@@ -166,7 +167,7 @@ static void answered(gt_t1 *t) {
     CHECK(held(), 2);
     comes(t, 0x40, secret, 50);
     CHECK(held(), 2);
-    CHECK(given_back, 0);
+    CHECK(not_wiped, 0);
 }
 
 /* An end at T=1 keeps its command and the response until it is reset or freed .. */
@@ -185,17 +186,17 @@ static void at_t1(bool is_reset) {
 static void next_at_t1(void) {
     uint8_t block[GT_BLOCK_LIMIT];
     gt_t1 t = GT_INIT;
-    size_t taken = 0, n;
+    size_t got = 0, n;
     answered(&t);
     CHECK(gt_t1_begin(&t, ANN, sizeof ANN), GT_OK);
     GONE();
     n = block_of(block, 0x00, secret, 200);
-    CHECK(gt_t1_receive_bytes(&t, block, 100, &taken), GT_OK);
+    CHECK(gt_t1_receive_bytes(&t, block, 100, &got), GT_OK);
     CHECK(held(), 1);
     CHECK(gt_t1_missed(&t), GT_OK);
     GONE();
     block[n - 1] ^= 1;
-    CHECK(gt_t1_receive_bytes(&t, block, n, &taken), GT_SENDS);
+    CHECK(gt_t1_receive_bytes(&t, block, n, &got), GT_SENDS);
     GONE();
     comes(&t, 0x00, ANN, sizeof ANN);
     CHECK(gt_t1_response(&t, block, sizeof block, &n), GT_OK);
@@ -211,9 +212,9 @@ static uint8_t number; /* in the PCB of the next I-block to the card: N(S) */
  * or the PCB if the field is shorter. */
 static unsigned hears(gt_card *c, uint8_t pcb, const uint8_t *info, size_t n) {
     uint8_t block[GT_BLOCK_LIMIT];
-    size_t taken = 0;
+    size_t got = 0;
     n = block_of(block, pcb, info, n);
-    CHECK(gt_card_t1_receive_bytes(c, block, n, &taken), GT_SENDS);
+    CHECK(gt_card_t1_receive_bytes(c, block, n, &got), GT_SENDS);
     CHECK(gt_card_t1_send_bytes(c, block, sizeof block, &n), GT_OK);
     return n < 6 ? block[1] : block[n - 3] * 256u + block[n - 2];
 }
@@ -232,12 +233,8 @@ static void chained(gt_card *c, const uint8_t *info, size_t n) {
 
 /* Sends a put at T=1, in one block or two, and returns the status. */
 static unsigned t1_put(gt_card *c, unsigned tag, const uint8_t *value, size_t n) {
-    uint8_t bytes[5 + PIECE] = { 0x00, 0xDA };
-    bytes[2] = (uint8_t)(tag / 256);
-    bytes[3] = (uint8_t)(tag % 256);
-    bytes[4] = (uint8_t)n;
-    memcpy(bytes + 5, value, n);
-    n += 5;
+    uint8_t bytes[5 + PIECE];
+    n = put_data(bytes, 0x00, tag, value, n);
     if (n <= FIELD) return last(c, bytes, n);
     chained(c, bytes, FIELD);
     return last(c, bytes + FIELD, n - FIELD);
@@ -267,12 +264,12 @@ static void t1_stored(gt_card *c) {
 
 /* A command at T=1 that S(ABORT) or S(RESYNCH) drops, or that is too long. */
 static void t1_dropped(gt_card *c) {
-    static const uint8_t requests[] = { 0xC2, 0xC0 };
+    static const uint8_t dropping[] = { 0xC2, 0xC0 };
     size_t i;
-    for (i = 0; i < sizeof requests; i++) {
+    for (i = 0; i < sizeof dropping; i++) {
         chained(c, secret, FIELD);
         CHECK(held(), 1);
-        CHECK(hears(c, requests[i], secret, 0), requests[i] + 0x20u);
+        CHECK(hears(c, dropping[i], secret, 0), dropping[i] + 0x20u);
         GONE();
     }
     number = 0;
@@ -286,19 +283,18 @@ static void t1_dropped(gt_card *c) {
 /* A block at T=1 that is damaged or stops, and one that the card has no memory for. */
 static void t1_blocks(gt_card *c) {
     uint8_t block[GT_BLOCK_LIMIT], put[FIELD] = { 0x00, 0xDA, 0x5F, 0x20, PIECE };
-    size_t taken = 0, n = block_of(block, number, secret, 200);
-    CHECK(gt_card_t1_receive_bytes(c, block, 100, &taken), GT_OK);
+    size_t got = 0, n = block_of(block, number, secret, 200);
+    CHECK(gt_card_t1_receive_bytes(c, block, 100, &got), GT_OK);
     CHECK(held(), 1);
     CHECK(gt_card_t1_missed(c), GT_SENDS);
     GONE();
     block[n - 1] ^= 1;
-    CHECK(gt_card_t1_receive_bytes(c, block, n, &taken), GT_SENDS);
+    CHECK(gt_card_t1_receive_bytes(c, block, n, &got), GT_SENDS);
     GONE();
     chained(c, put, sizeof put);
     n = block_of(block, number, secret, 5 + PIECE - FIELD);
-    is_refused = true;
-    CHECK(gt_card_t1_receive_bytes(c, block, n, &taken), GT_MEMORY);
-    is_refused = false;
+    refused = requests + 1;
+    CHECK(gt_card_t1_receive_bytes(c, block, n, &got), GT_MEMORY);
     GONE();
     CHECK(last(c, secret, 5 + PIECE - FIELD), 0x9000);
     CHECK(held(), 1);
@@ -310,7 +306,7 @@ static void t1_blocks(gt_card *c) {
 static void card_at_t1(gt_card *c) {
     static const uint8_t ifsd[] = { 0xFE };
     uint8_t block[GT_BLOCK_LIMIT];
-    size_t taken = 0, n;
+    size_t got = 0, n;
     number = 0;
     CHECK(gt_card_t1_begin(c), GT_OK);
     CHECK(hears(c, 0xC1, ifsd, 1), 0xE1);
@@ -319,7 +315,7 @@ static void card_at_t1(gt_card *c) {
     t1_blocks(c);
     chained(c, secret, FIELD);
     n = block_of(block, number, secret, FIELD);
-    CHECK(gt_card_t1_receive_bytes(c, block, n - 1, &taken), GT_OK);
+    CHECK(gt_card_t1_receive_bytes(c, block, n - 1, &got), GT_OK);
     CHECK(held(), 2);
     CHECK(gt_card_reset(c), GT_OK);
     GONE();
@@ -331,12 +327,12 @@ static void card_at_t1(gt_card *c) {
 /* Gives the card a command with this data: INS 20 takes it. */
 static void to_own(gt_card *c, const uint8_t *value, size_t n) {
     uint8_t bytes[FIELD] = { 0x00, 0x20 }, block[GT_BLOCK_LIMIT];
-    size_t taken = 0, size;
+    size_t got = 0, size;
     bytes[4] = (uint8_t)n;
     memcpy(bytes + 5, value, n);
     size = block_of(block, number, bytes, 5 + n);
     number ^= 0x40;
-    CHECK(gt_card_t1_receive_bytes(c, block, size, &taken), GT_SENDS);
+    CHECK(gt_card_t1_receive_bytes(c, block, size, &got), GT_SENDS);
     CHECK(gt_card_t1_send_bytes(c, block, sizeof block, &size), GT_COMMAND);
 }
 
@@ -375,14 +371,14 @@ static void own_answered(gt_card *c) {
 static void own_dropped(gt_card *c) {
     static const uint8_t two[] = { 2 };
     uint8_t block[GT_BLOCK_LIMIT];
-    size_t taken, n, i;
+    size_t got, n, i;
     for (i = 0; i < 8; i++) {
         to_own(c, secret, 200);
         if (i % 2 != 0) {
             CHECK(gt_card_more_time(c, 2), GT_OK);
             CHECK(own_sends(c), 5);
             n = block_of(block, 0xE3, two, 1);
-            CHECK(gt_card_t1_receive_bytes(c, block, n, &taken), GT_SENDS);
+            CHECK(gt_card_t1_receive_bytes(c, block, n, &got), GT_SENDS);
             CHECK(gt_card_t1_send_bytes(c, block, sizeof block, &n), GT_COMMAND);
         }
         if (i % 4 > 1) CHECK(gt_card_respond(c, secret, LONG, 0x9000), GT_OK);
@@ -429,8 +425,7 @@ int main(void) {
     next_at_t1();
     own_at_t1();
     gt_card_free(&card);
-    for (i = 0; i < MOST; i++) if (blocks[i].at) break;
-    CHECK(i, MOST);
+    CHECK(taken, 0);
     GONE();
     return check_result("memory_secrets");
 }

@@ -1,5 +1,6 @@
 /* The model of a card of one's own application, for tests of random sessions: what the terminal
- * sends, what waits at the card, and what goes out by the rules in the header. */
+ * sends, what waits at the card, and what goes out by the rules in the header. Requests for memory
+ * are refused at random, and the calls repeated. */
 #ifndef OWN_MODEL_H
 #define OWN_MODEL_H
 
@@ -20,6 +21,9 @@ static inline size_t any(size_t limit) {
     state = state * 1664525u + 1013904223u;
     return (size_t)(state >> 8) % limit;
 }
+
+#define NEXT_REFUSAL (1 + any(8))
+#include "wrapped_heap.h"
 
 /* ---- What the terminal sends ----------------------------------------------------------------- */
 
@@ -182,7 +186,7 @@ static inline void answer(int32_t code) {
     CHECK(command.le, now_le);
     CHECK_BYTES(command.data, now->data, now_n);
     CHECK(gt_card_direction(&card, to_card), GT_STATE);
-    CHECK(gt_card_respond(&card, given, given_n, given_status), GT_OK);
+    GETS(gt_card_respond(&card, given, given_n, given_status), GT_OK);
     CHECK(gt_card_respond(&card, given, given_n, given_status), GT_STATE);
     settled = 0;
     asked++;
@@ -203,9 +207,28 @@ static inline void any_directions(void) {
     size_t i;
     has_directions = any(2) == 0;
     for (i = 0; i < sizeof directions; i++) directions[i] = (uint8_t)any(256);
-    CHECK(gt_card_own(&card, has_directions ? directions : NULL), GT_OK);
+    refused = requests + NEXT_REFUSAL;
+    GETS(gt_card_own(&card, has_directions ? directions : NULL), GT_OK);
     waits.kind = NOTHING;
     settled = 1;
+}
+
+/* Sessions of some commands, with resets between them. At the end of each one all memory is given
+ * back, and each block was wiped. */
+static inline void sessions(void (*begin)(void), void (*one)(void), void (*reset)(void)) {
+    size_t i, commands;
+    for (i = 0; i < SESSIONS && failed == 0; i++) {
+        any_directions();
+        begin();
+        for (commands = 1 + any(COMMANDS); commands > 0 && failed == 0; commands--) {
+            one();
+            if (any(12) == 0) reset();
+        }
+        gt_card_free(&card);
+        CHECK(taken, 0);
+        CHECK(not_wiped, 0);
+    }
+    CHECK(lacks > SESSIONS, 1);
 }
 
 #endif

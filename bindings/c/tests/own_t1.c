@@ -22,12 +22,12 @@ static int dropped, extended, again, abandoned;
 static void to_card(uint8_t pcb, const uint8_t *field, size_t n) {
     uint8_t bytes[GT_BLOCK_LIMIT];
     const size_t size = block_of(bytes, pcb, field, n);
-    size_t at, taken = 0;
-    for (at = 0; at < size && failed == 0; at += taken) {
+    size_t at, got = 0;
+    for (at = 0; at < size && failed == 0; at += got) {
         const size_t piece = 1 + any(size - at);
-        CHECK(gt_card_t1_receive_bytes(&card, bytes + at, piece, &taken),
+        CHECK(gt_card_t1_receive_bytes(&card, bytes + at, piece, &got),
               at + piece < size ? GT_OK : GT_SENDS);
-        CHECK(taken, piece);
+        CHECK(got, piece);
     }
 }
 
@@ -36,11 +36,11 @@ static int damaged(void) {
     static const uint8_t WRONG[] = { 0x00, 0x00, 0x00, 0x55 };
     static const uint8_t NO_BLOCK[] = { 0x00, 0xC4, 0x00, 0xC4 };
     const size_t kind = any(4);
-    size_t taken;
+    size_t got;
     if (kind == 0) CHECK(gt_card_t1_missed(&card), GT_SENDS);
     if (kind == 1) CHECK(gt_card_t1_damaged(&card), GT_SENDS);
-    if (kind == 2) CHECK(gt_card_t1_receive_bytes(&card, WRONG, 4, &taken), GT_SENDS);
-    if (kind == 3) CHECK(gt_card_t1_receive_bytes(&card, NO_BLOCK, 4, &taken), GT_SENDS);
+    if (kind == 2) CHECK(gt_card_t1_receive_bytes(&card, WRONG, 4, &got), GT_SENDS);
+    if (kind == 3) CHECK(gt_card_t1_receive_bytes(&card, NO_BLOCK, 4, &got), GT_SENDS);
     return kind == 1 || kind == 2 ? EDC : OTHER;
 }
 
@@ -50,9 +50,9 @@ static void sends(int pcb, const uint8_t *field, size_t n) {
     uint8_t sum = 0;
     do {
         block_n = 0;
-        CHECK(gt_card_t1_send_bytes(&card, block, 3, &block_n), GT_BUFFER);
+        GETS(gt_card_t1_send_bytes(&card, block, 3, &block_n), GT_BUFFER);
         CHECK(block_n, n + 4);
-        CHECK(gt_card_t1_send_bytes(&card, block, sizeof block, &block_n), GT_OK);
+        GETS(gt_card_t1_send_bytes(&card, block, sizeof block, &block_n), GT_OK);
         CHECK(block_n, n + 4);
         CHECK(block[0], 0);
         CHECK(block[1], pcb);
@@ -165,12 +165,14 @@ enum { ANSWERED, DROPPED, ABANDONED };
 /* The card got the last block of the command. */
 static int await(void) {
     for (;;) {
-        const int32_t code = gt_card_t1_send_bytes(&card, block, sizeof block, &block_n);
+        int32_t code;
+        do code = gt_card_t1_send_bytes(&card, block, sizeof block, &block_n);
+        while (lacks_memory(code));
         if (code != GT_COMMAND && code != GT_HEADER) {
             CHECK(code, GT_OK);
             return ANSWERED;
         }
-        CHECK(gt_card_t1_send_bytes(&card, block, sizeof block, &block_n), code);
+        GETS(gt_card_t1_send_bytes(&card, block, sizeof block, &block_n), code);
         if (code == GT_HEADER) CHECK(gt_card_more_time(&card, 1), GT_STATE);
         if (any(6) == 0) {
             drop();
@@ -249,6 +251,7 @@ static void one(void) {
     const size_t n = apdu_of(&s, bytes);
     const int to = goes_to_card(s.header[1]), before = asked;
     const int reaches = is_own(s.header[1]) && !command_is_wrong(&s);
+    if (any(4) == 0) ifs();
     now = &s;
     now_n = to ? s.n : 0;
     now_le = to ? 0 : s.le > 0 ? s.le : 256;
@@ -263,22 +266,9 @@ static void one(void) {
     comes();
 }
 
-static void session(void) {
-    size_t i, n = 1 + any(COMMANDS);
-    any_directions();
-    begin();
-    for (i = 0; i < n && failed == 0; i++) {
-        if (any(4) == 0) ifs();
-        one();
-        if (any(12) == 0) reset();
-    }
-    gt_card_free(&card);
-}
-
 int main(void) {
-    int i;
     CHECK(gt_card_more_time(&card, 1), GT_EMPTY);
-    for (i = 0; i < SESSIONS && failed == 0; i++) session();
+    sessions(begin, one, reset);
     CHECK(asked > SESSIONS / 2 && fetched > SESSIONS / 100, 1);
     CHECK(dropped > SESSIONS / 100 && abandoned > SESSIONS / 100, 1);
     CHECK(extended > SESSIONS / 100 && again > SESSIONS / 100, 1);

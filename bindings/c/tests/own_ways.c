@@ -68,12 +68,12 @@ static uint8_t next(void) {
 }
 
 static void to_card(const uint8_t *bytes, size_t n) {
-    size_t at, taken = 1;
-    for (at = 0; at < n && failed == 0; at += taken) {
+    size_t at, got = 1;
+    for (at = 0; at < n && failed == 0; at += got) {
         const size_t piece = by_buffers ? 1 + any(n - at) : 1;
-        if (by_buffers) CHECK(gt_card_receive_bytes(&card, bytes + at, piece, &taken), GT_OK);
+        if (by_buffers) CHECK(gt_card_receive_bytes(&card, bytes + at, piece, &got), GT_OK);
         else CHECK(gt_card_take(&card, bytes[at]), GT_OK);
-        CHECK(taken, piece);
+        CHECK(got, piece);
     }
 }
 
@@ -124,13 +124,14 @@ static void misuse(carry *goes, carry *other) {
 
 /* Returns the code of the last call. */
 static int32_t by_whole(carry *goes, carry *other, const uint8_t *bytes, size_t n) {
-    int32_t code = goes(&card, bytes, n, came, sizeof came, &came_n);
+    int32_t code;
+    do code = goes(&card, bytes, n, came, sizeof came, &came_n); while (lacks_memory(code));
     while (code == GT_COMMAND || code == GT_HEADER) {
         if (any(4) == 0) misuse(goes, other);
         CHECK(came_n, 0);
         if (!is_asked(code)) return code;
         if (any(4) == 0) misuse(goes, other);
-        code = goes(&card, NULL, 0, came, sizeof came, &came_n);
+        do code = goes(&card, NULL, 0, came, sizeof came, &came_n); while (lacks_memory(code));
     }
     return code;
 }
@@ -163,7 +164,7 @@ static void plan(void) {
     for (i = 0; i < n; i++) steps[i] = LETTERS[any(sizeof LETTERS - 1)];
     steps[n] = '\0';
     cut = 1 + any(255);
-    CHECK(gt_card_plan(&card, steps, (uint16_t)cut), GT_OK);
+    GETS(gt_card_plan(&card, steps, (uint16_t)cut), GT_OK);
 }
 
 /* The same card by a TPDU, in any way. Returns whether the application was to be asked. */
@@ -201,6 +202,7 @@ static int any_command(const sent *s) {
 static void one(void) {
     sent s = any_sent();
     int before = asked, reaches;
+    plan();
     if (waits.kind == REPEAT && any(2) == 0) {
         memcpy(s.header, waits.header, 4);
         s.p3 = waits.n;
@@ -219,24 +221,10 @@ static void one(void) {
     CHECK(gt_card_settled(&card), settled);
 }
 
-static void session(void) {
-    size_t i, n = 1 + any(COMMANDS);
-    any_directions();
-    cut = 256;
-    for (i = 0; i < n && failed == 0; i++) {
-        plan();
-        one();
-        if (any(12) == 0) {
-            was_reset = 0;
-            reset();
-        }
-    }
-    gt_card_free(&card);
-}
+static void begin(void) { cut = 256; }
 
 int main(void) {
-    int i;
-    for (i = 0; i < SESSIONS && failed == 0; i++) session();
+    sessions(begin, one, reset);
     CHECK(asked > SESSIONS && fetched > SESSIONS / 100 && repeated > SESSIONS / 100, 1);
     return check_result("own_ways");
 }

@@ -1,19 +1,15 @@
 /* Tests what the header itself has: texts for unknown values, words of statuses, `gt_is_object`,
- * the numbers and layouts that it fixes, and that the library fits it. `checks/bindings/same`
- * compares codes, texts and limits with the crate for Rust and the definitions. */
+ * the numbers that it fixes, and that the library fits it. `checks/bindings/same` compares codes,
+ * texts, limits and layouts with the crate for Rust and the definitions. */
 #include "galliumtoad.h"
 #include "check.h"
 
-/* Unknown codes have a text too. */
-static void unknown(void) {
-    CHECK(strcmp(gt_text(INT32_MIN), "unknown code"), 0);
-    CHECK(strcmp(gt_text(-300), "unknown code"), 0);
-    CHECK(strcmp(gt_text(300), "unknown code"), 0);
-    CHECK(strcmp(gt_text(INT32_MAX), "unknown code"), 0);
-}
-
-/* The texts of codes that are not faults. The crate for Rust has other names for them. */
-static void known(void) {
+/* The texts of unknown codes, and of codes that are not faults: the crate for Rust has other names
+ * for those. */
+static void codes(void) {
+    static const int32_t unknown[] = { INT32_MIN, -300, 300, INT32_MAX };
+    size_t i;
+    for (i = 0; i < 4; i++) CHECK(strcmp(gt_text(unknown[i]), "unknown code"), 0);
     CHECK(strcmp(gt_text(GT_OK), "ok"), 0);
     CHECK(strcmp(gt_text(GT_SENDS), "sends"), 0);
     CHECK(strcmp(gt_text(GT_DONE), "done"), 0);
@@ -109,81 +105,6 @@ static void numbers(void) {
     CHECK(gt_version_fits(), 1);
 }
 
-/* An empty handle, and the offset of each field, which the archive relies on. */
-#define IS_HANDLE(type) do { \
-        const type empty = GT_INIT; \
-        CHECK(sizeof empty, 16); \
-        CHECK(offsetof(type, live), 0); \
-        CHECK(offsetof(type, held), 8); \
-        CHECK(empty.live || empty.held, 0); \
-    } while (0)
-
-/* Each number of a record: its name, its offset and its size, on which the archive relies. */
-#define IS_AT(type, name, at, size) do { \
-        CHECK(offsetof(type, name), at); \
-        CHECK(sizeof ((type *)0)->name, size); \
-    } while (0)
-
-static void layout_of_atr(void) {
-    CHECK(sizeof(gt_atr), 96);
-    IS_AT(gt_atr, length, 0, 8);
-    IS_AT(gt_atr, historical, 8, 8);
-    IS_AT(gt_atr, historical_count, 16, 8);
-    IS_AT(gt_atr, category, 24, 1);
-    IS_AT(gt_atr, convention, 25, 1);
-    IS_AT(gt_atr, protocol_count, 26, 1);
-    IS_AT(gt_atr, names_15, 42, 1);
-    IS_AT(gt_atr, rate_code, 43, 1);
-    IS_AT(gt_atr, di, 44, 1);
-    IS_AT(gt_atr, extra_guard_time, 45, 1);
-    IS_AT(gt_atr, waiting_integer, 46, 1);
-    IS_AT(gt_atr, specific, 47, 1);
-    IS_AT(gt_atr, specific_t, 48, 1);
-    IS_AT(gt_atr, can_change, 49, 1);
-    IS_AT(gt_atr, implicit, 50, 1);
-    IS_AT(gt_atr, clock_stop, 51, 1);
-    IS_AT(gt_atr, classes, 52, 1);
-    IS_AT(gt_atr, fi, 54, 2);
-    IS_AT(gt_atr, max_khz, 56, 2);
-    IS_AT(gt_atr, guard_etu, 58, 2);
-    IS_AT(gt_atr, guard_etu_t1, 60, 2);
-    IS_AT(gt_atr, guard_indicated, 62, 2);
-    IS_AT(gt_atr, waiting_time, 64, 4);
-    IS_AT(gt_atr, t1.ifsc, 72, 1);
-    IS_AT(gt_atr, t1.edc, 73, 1);
-    IS_AT(gt_atr, t1.bwi, 74, 1);
-    IS_AT(gt_atr, t1.cwi, 75, 1);
-    IS_AT(gt_atr, t1.cwt_etu, 76, 2);
-    IS_AT(gt_atr, t1.bwt_etu, 78, 2);
-    IS_AT(gt_atr, t1.bgt_etu, 80, 2);
-    IS_AT(gt_atr, t1.bwt_cycles, 88, 8);
-    IS_AT(gt_atr, protocols, 27, 15);
-    IS_AT(gt_atr, t1, 72, 24);
-}
-
-static void layouts(void) {
-    IS_HANDLE(gt_exchange);
-    IS_HANDLE(gt_terminal);
-    IS_HANDLE(gt_card);
-    IS_HANDLE(gt_session);
-    IS_HANDLE(gt_t1);
-    CHECK(sizeof(gt_object), 40);
-    CHECK(offsetof(gt_object, tag), 0);
-    CHECK(offsetof(gt_object, level), 4);
-    CHECK(offsetof(gt_object, constructed), 5);
-    CHECK(offsetof(gt_object, place), 8);
-    CHECK(offsetof(gt_object, size), 16);
-    CHECK(offsetof(gt_object, value), 24);
-    CHECK(offsetof(gt_object, length), 32);
-    CHECK(sizeof(gt_character), 2);
-    CHECK(offsetof(gt_character, from), 0);
-    CHECK(offsetof(gt_character, byte), 1);
-    CHECK(sizeof(gt_command), 262);
-    CHECK(offsetof(gt_command, le), 4);
-    CHECK(offsetof(gt_command, size), 6);
-    CHECK(offsetof(gt_command, data), 7);
-}
-
 #define BYTES(s) (const uint8_t *)(s), sizeof(s) - 1
 #define NAME "\x5F\x20\x03JOE"
 
@@ -213,13 +134,10 @@ static void one_object(void) {
 }
 
 int main(void) {
-    unknown();
-    known();
+    codes();
     words();
     cut_words();
     numbers();
-    layouts();
-    layout_of_atr();
     one_object();
     return check_result("texts");
 }

@@ -1,7 +1,7 @@
 #define _POSIX_C_SOURCE 200112L
 
 #include "carrier.h"
-#include "print.h"
+#include "text.h"
 
 #include <signal.h>
 #include <unistd.h>
@@ -68,11 +68,11 @@ static const char *pass_one(const struct carrier *carrier, gt_terminal *terminal
     const char *fault = NULL;
     int32_t code;
     if (carrier->shown != NULL)
-        fault = print_bytes(carrier->shown, "> ", sent, n);
+        fault = text_print_bytes(carrier->shown, "> ", sent, n);
     if (fault == NULL)
         fault = reader_transmit(carrier->reader, sent, n, answer, &length);
     if (fault == NULL && carrier->shown != NULL)
-        fault = print_bytes(carrier->shown, "< ", answer, length);
+        fault = text_print_bytes(carrier->shown, "< ", answer, length);
     if (fault != NULL)
         return fault;
     code = carrier->is_by_apdus ? gt_terminal_responded(terminal, answer, length)

@@ -68,22 +68,18 @@ static int run(char *const *words, size_t count)
     struct script script;
     const long wait = seconds != NULL ? (long)program_number(seconds, 5, WAIT_LIMIT) : -1;
     const int protocol = protocol_word != NULL ? (int)program_number(protocol_word, 1, 1) : -1;
-    const char *fault;
-    bool is_of_words;
     int result;
     if (lists)
         return list_readers(count == 0 && file == NULL && reader_name == NULL);
-    if (file != NULL && count > 0)
-        return program_refuse("operations are either words or in FILE");
     if (file == NULL && count == 0)
         return program_refuse("no operation was provided");
     if (wait > WAIT_LIMIT)
         return program_refuse("'--wait' takes a number from 0 to 86400");
     if (protocol > 1)
         return program_refuse("'--protocol' takes 0 or 1");
-    fault = script_read(&script, file, words, count, &is_of_words);
-    if (fault != NULL)
-        return is_of_words ? program_refuse(fault) : program_tell(fault);
+    result = script_read(&script, file, words, count);
+    if (result != ALL_WELL)
+        return result;
     result = run_steps(&script, protocol, wait);
     script_free(&script);
     return result;

@@ -1,11 +1,11 @@
 /* gt_serial: a terminal for the card in a Phoenix or Smartmouse reader at a tty. The library's
  * terminal is proved. This program resets the card, reads its answer, and passes characters both
  * ways, each within the line's times. `gt_serial --help` says what it does. */
-#include "print.h"
 #include "serial_answer.h"
 #include "serial_options.h"
 #include "serial_t1.h"
 #include "steps.h"
+#include "text.h"
 
 #include <string.h>
 
@@ -137,7 +137,7 @@ static const char *pass(void *line, gt_terminal *terminal, const struct operatio
                                                     : pass_all(session, terminal);
     (void)operation;
     line_note_text(session->line, NULL);
-    if (fault == CUT_SHORT && print_bytes(stdout, "= ", session->status, 2) != NULL)
+    if (fault == CUT_SHORT && text_print_bytes(stdout, "= ", session->status, 2) != NULL)
         return "write fault";
     return fault;
 }
@@ -185,7 +185,7 @@ static const char *print_meaning(const struct answer *answer)
 {
     const gt_atr *says = &answer->says;
     size_t i;
-    print_bytes(stdout, "answer        ", answer->bytes, answer->n);
+    text_print_bytes(stdout, "answer        ", answer->bytes, answer->n);
     printf("convention    %s\nprotocols    ",
            says->convention == GT_INVERSE ? "inverse" : "direct");
     for (i = 0; i < says->protocol_count; i++)
@@ -203,8 +203,8 @@ static const char *print_meaning(const struct answer *answer)
     if (says->historical_count == 0)
         puts("historical    none");
     else
-        print_bytes(stdout, "historical    ", answer->bytes + says->historical,
-                    says->historical_count);
+        text_print_bytes(stdout, "historical    ", answer->bytes + says->historical,
+                         says->historical_count);
     return fflush(stdout) == 0 && !ferror(stdout) ? NULL : "write fault";
 }
 
@@ -259,15 +259,12 @@ static int run(char *const *words, size_t count)
     struct script script;
     struct port port;
     const char *fault;
-    bool is_of_words;
     int result;
     if (count == 0)
         return program_refuse("no tty was provided");
-    if (file != NULL && count > 1)
-        return program_refuse("operations are either words or in FILE");
-    fault = script_read(&script, file, words + 1, count - 1, &is_of_words);
-    if (fault != NULL)
-        return is_of_words ? program_refuse(fault) : program_tell(fault);
+    result = script_read(&script, file, words + 1, count - 1);
+    if (result != ALL_WELL)
+        return result;
     fault = port_open(&port, words[0], options.baud);
     result = fault != NULL ? program_tell(fault) : run_over(&port, &script);
     if (fault == NULL)

@@ -237,15 +237,13 @@ static bool is_answered_well(gt_terminal *terminal, size_t *n)
 
 const char *operation_answer_fault(const struct operation *operation, gt_terminal *terminal)
 {
-    static char text[112];
     const unsigned tag = operation->tag;
     size_t n;
     if (operation->kind != OPERATION_GET || !is_answered_well(terminal, &n)
         || gt_is_object(data, n, tag))
         return NULL;
-    snprintf(text, sizeof text, "the answer is not the object %02X; "
-             "if the card sends the value alone, use send 00CA%04X00", tag, tag);
-    return text;
+    return text_told("the answer is not the object %02X; "
+                     "if the card sends the value alone, use send 00CA%04X00", tag, tag);
 }
 
 /* Whether these bytes are the value of a put. */
@@ -256,7 +254,6 @@ static bool is_value(const struct operation *put, const uint8_t *bytes, size_t n
 
 const char *operation_store_fault(const struct operation *put, gt_terminal *terminal)
 {
-    static char text[48];
     gt_object object;
     size_t n, place;
     if (is_answered_well(terminal, &n)
@@ -264,8 +261,7 @@ const char *operation_store_fault(const struct operation *put, gt_terminal *term
             || (gt_find(data, n, &put->tag, 1, &object, &place) == GT_OK && object.size == n
                 && is_value(put, data + object.value, object.length))))
         return NULL;
-    snprintf(text, sizeof text, "%02X was not stored as sent", (unsigned)put->tag);
-    return text;
+    return text_told("%02X was not stored as sent", (unsigned)put->tag);
 }
 
 void operation_free(struct operation *operation)

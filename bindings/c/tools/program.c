@@ -67,13 +67,10 @@ unsigned long program_number(const char *word, size_t digits, unsigned long most
 
 static const char *read_number(const struct option *option, const char *word)
 {
-    static char told[80];
     const unsigned long found = program_number(word, 9, option->most);
-    if (found < option->least || found > option->most) {
-        snprintf(told, sizeof told, "'%s' takes a number from %lu to %lu", option->name,
-                 option->least, option->most);
-        return told;
-    }
+    if (found < option->least || found > option->most)
+        return text_told("'%s' takes a number from %lu to %lu", option->name, option->least,
+                         option->most);
     *(unsigned long *)option->field = found;
     return NULL;
 }

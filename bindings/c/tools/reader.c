@@ -38,7 +38,6 @@ static const struct {
 /* NULL for success, and a text for each other code of a call without a context. */
 static const char *text_of(LONG code)
 {
-    static char other[128];
     size_t i;
     if (code == SCARD_S_SUCCESS)
         return NULL;
@@ -46,9 +45,8 @@ static const char *text_of(LONG code)
         if (TEXTS[i].code == code)
             return TEXTS[i].text;
     }
-    snprintf(other, sizeof other, "PC/SC fault %08lX: %s", (unsigned long)code & 0xFFFFFFFFUL,
-             pcsc_stringify_error(code));
-    return other;
+    return text_told("PC/SC fault %08lX: %s", (unsigned long)code & 0xFFFFFFFFUL,
+                     pcsc_stringify_error(code));
 }
 
 /* The names of all readers, one after another, each with a NUL: `size` bytes. */

@@ -1,4 +1,7 @@
+#define _POSIX_C_SOURCE 200112L
+
 #include "script.h"
+#include "program.h"
 #include "text.h"
 
 #include <errno.h>
@@ -6,39 +9,23 @@
 #include <stdlib.h>
 #include <string.h>
 
+/* the fewest bytes of a line with an operation, its end included: `get 50` */
+enum { SHORTEST = 7 };
+
 /* Functions of text return NULL, or why there is no script; the text stays until the next call. */
 
 /* Refuses a step of the script; its unit and number precede the text. */
 static const char *refuse_step(const struct script *script, size_t number, const char *text)
 {
-    static char told[400];
-    snprintf(told, sizeof told, "%s %lu: %s", script->unit, (unsigned long)number, text);
-    return told;
-}
-
-/* Makes room for one more step: doubles it if it is full. */
-static bool has_room(struct script *script)
-{
-    const size_t room = script->room > 0 ? 2 * script->room : 16;
-    struct step *steps;
-    if (script->count < script->room)
-        return true;
-    steps = realloc(script->steps, room * sizeof *steps);
-    if (steps == NULL)
-        return false;
-    script->steps = steps;
-    script->room = room;
-    return true;
+    return text_told("%s %lu: %s", script->unit, (unsigned long)number, text);
 }
 
 /* Adds the operation that these words say. */
 static const char *add(struct script *script, size_t number, char *const *words, size_t count,
                        bool *is_of_words)
 {
-    const char *fault = gt_text(GT_MEMORY);
-    if (has_room(script))
-        fault = operation_read(&script->steps[script->count].operation, words, count,
-                               is_of_words);
+    const char *fault =
+        operation_read(&script->steps[script->count].operation, words, count, is_of_words);
     if (fault != NULL)
         return refuse_step(script, number, fault);
     script->steps[script->count++].number = number;
@@ -50,6 +37,9 @@ static const char *add_words(struct script *script, char *const *words, size_t c
 {
     const char *fault = NULL;
     size_t at = 0, number = 1;
+    script->steps = malloc((count + 1) * sizeof *script->steps);
+    if (script->steps == NULL)
+        return gt_text(GT_MEMORY);
     while (at < count && fault == NULL) {
         const size_t wanted = operation_word_count(words[at]);
         const size_t n = wanted == 0 ? 1 : wanted < count - at ? wanted : count - at;
@@ -62,7 +52,7 @@ static const char *add_words(struct script *script, char *const *words, size_t c
 /* Reads one line, which ends at a NUL; a NUL inside it is a character of no word, read as \x01. */
 static const char *add_line(struct script *script, size_t number, char *line, size_t n)
 {
-    char *words[OPERATION_WORDS + 1];
+    char *words[OPERATION_WORDS + 1], *rest = NULL;
     const bool has_nul = strlen(line) != n;
     const char *fault;
     size_t count = 0, i;
@@ -75,8 +65,8 @@ static const char *add_line(struct script *script, size_t number, char *line, si
         if (line[i] == '\0')
             line[i] = '\x01';
     }
-    while (count <= OPERATION_WORDS && (words[count] = text_word(&line)) != NULL)
-        count++;
+    for (; count <= OPERATION_WORDS && (words[count] = strtok_r(line, " ", &rest)) != NULL; count++)
+        line = NULL;
     fault = count == 0 ? NULL : add(script, number, words, count, &is_of_words);
     return fault == NULL && has_nul ? refuse_step(script, number, "bad hex") : fault;
 }
@@ -113,31 +103,35 @@ static const char *add_file(struct script *script, FILE *file, const char *name)
         fault = text_fault("read fault", name, strerror(errno));
     else if (n > SCRIPT_SIZE_LIMIT)
         fault = text_quoted("input too long: ", name, "");
+    else if ((script->steps = malloc((n / SHORTEST + 1) * sizeof *script->steps)) == NULL)
+        fault = gt_text(GT_MEMORY);
     else
         fault = add_lines(script, text, n);
     free(text);
     return fault == NULL && script->count == 0 ? text_quoted("no operation in ", name, "") : fault;
 }
 
-const char *script_read(struct script *script, const char *name, char *const *words, size_t count,
-                        bool *is_of_words)
+int script_read(struct script *script, const char *name, char *const *words, size_t count)
 {
     FILE *file = stdin;
     const char *fault;
+    bool is_of_words = false;
     memset(script, 0, sizeof *script);
     script->unit = name == NULL ? "operation" : "line";
-    *is_of_words = false;
+    if (name != NULL && count > 0)
+        return program_refuse("operations are either words or in FILE");
     if (name != NULL && strcmp(name, "-") != 0)
         file = fopen(name, "rb");
     if (file == NULL)
-        return text_fault("read fault", name, strerror(errno));
-    fault = name == NULL ? add_words(script, words, count, is_of_words)
+        return program_tell(text_fault("read fault", name, strerror(errno)));
+    fault = name == NULL ? add_words(script, words, count, &is_of_words)
                          : add_file(script, file, name);
     if (file != stdin)
         fclose(file);
-    if (fault != NULL)
-        script_free(script);
-    return fault;
+    if (fault == NULL)
+        return ALL_WELL;
+    script_free(script);
+    return is_of_words ? program_refuse(fault) : program_tell(fault);
 }
 
 void script_free(struct script *script)

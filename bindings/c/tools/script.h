@@ -13,18 +13,16 @@ struct script {
         size_t number;  /* of its line, or among the operations of the command line; from 1 */
         struct operation operation;
     } *steps;
-    size_t count, room;
+    size_t count;
     const char *unit;   /* what the numbers count: "line" or "operation" */
 };
 
 /* Reads a script: from the file with this name (`-`: standard input), or from the words if `name`
  * is NULL. An operation of the command line has as many words as its first one requires. A file has
  * an operation in each line, and at least one. Empty lines, lines of spaces, and lines that begin
- * with # are skipped. Returns NULL, or why there is no script: the line or the operation, and the
- * reason. The text stays until the next call. `is_of_words` says that the words of the command line
- * are to blame, and no file or machine. */
-const char *script_read(struct script *script, const char *name, char *const *words, size_t count,
-                        bool *is_of_words);
+ * with # are skipped. Returns the exit status. Unless that is ALL_WELL there is no script, and
+ * standard error says why: the line or the operation, and the reason. */
+int script_read(struct script *script, const char *name, char *const *words, size_t count);
 
 /* Frees the memory. */
 void script_free(struct script *script);

@@ -1,4 +1,5 @@
 #include "serial_answer.h"
+#include "text.h"
 
 #include <galliumtoad.h>
 
@@ -8,15 +9,10 @@
  * is held for a reset: 400 cycles are required, and slow readers take longer to pass them on */
 enum { BEGINS_BEFORE = 40000, IS_HELD_FOR = 50000 };
 
-/* the code of the rate that holds from a reset on (ISO/IEC 7816-3, 8.3) */
-#define RATE_OF_RESET 0x11
-
 enum { TS_OF_DIRECT = 0x3B, TS_OF_INVERSE = 0x3F };
 
 static const char NO_ANSWER[] = "the card does not answer to reset";
 static const char TOO_LONG[] = "the answer to reset is too long";
-
-static char told[160];
 
 /* How long this many cycles of the card's clock are. */
 static int64_t cycles(const struct answer *answer, uint64_t count)
@@ -62,9 +58,8 @@ static const char *reset(struct answer *answer, const struct answer_wishes *wish
 
 static const char *tell_none(int32_t code, size_t place)
 {
-    snprintf(told, sizeof told, "the answer to reset is invalid: %s, at byte %lu", gt_text(code),
-             (unsigned long)place + 1);
-    return told;
+    return text_told("the answer to reset is invalid: %s, at byte %lu", gt_text(code),
+                     (unsigned long)place + 1);
 }
 
 /* TS shows the convention: 3B, or 3F for the inverse one, which the direct one reads as 03. If it
@@ -104,11 +99,8 @@ static const char *take_others(struct answer *answer)
         const char *fault = answer->n == sizeof answer->bytes
             ? TOO_LONG
             : line_receive(answer->line, &answer->bytes[answer->n], wait);
-        if (fault == LINE_IS_SILENT) {
-            snprintf(told, sizeof told, "the answer to reset stops after byte %lu",
-                     (unsigned long)answer->n);
-            return told;
-        }
+        if (fault == LINE_IS_SILENT)
+            return text_told("the answer to reset stops after byte %lu", (unsigned long)answer->n);
         if (fault != NULL)
             return fault;
         answer->n++;

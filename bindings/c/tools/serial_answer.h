@@ -4,8 +4,10 @@
 
 #include "serial_line.h"
 
-/* the clock cycles of an etu before a card says otherwise (ISO/IEC 7816-3, 8.1) */
+/* the clock cycles of an etu before a card says otherwise, and the code of that rate (ISO/IEC
+ * 7816-3, 8.1 and 8.3) */
 #define ANSWER_CYCLES 372
+#define RATE_OF_RESET 0x11
 
 /* the most characters before TS that are taken for noise (profile) */
 #define ANSWER_NOISE_LIMIT 16

@@ -1,4 +1,5 @@
 #include "serial_line.h"
+#include "text.h"
 
 #include <string.h>
 
@@ -43,14 +44,10 @@ void line_note(struct line *line, enum line_end end, uint8_t byte)
 
 void line_note_pps(struct line *line, enum line_end end, const uint8_t *bytes, size_t n)
 {
-    char text[sizeof "pps > " + 2 * GT_PPS_LIMIT];
-    int length = snprintf(text, sizeof text, "pps %c ", (char)end);
-    size_t i;
-    for (i = 0; i < n && i < GT_PPS_LIMIT; i++)
-        length += snprintf(text + length, sizeof text - (size_t)length, "%02X",
-                           (unsigned)bytes[i]);
-    if (n > 0)
-        line_note_text(line, text);
+    const char mark[] = { 'p', 'p', 's', ' ', (char)end, ' ', '\0' };
+    line_note_text(line, NULL);
+    if (line->trace != NULL && n > 0)
+        text_print_bytes(line->trace, mark, bytes, n);
 }
 
 void line_note_text(struct line *line, const char *text)

@@ -39,9 +39,6 @@ static const tcflag_t DROPPED = PARENB | PARODD;
 static struct termios2 before;
 static volatile sig_atomic_t before_fd = -1;
 
-/* the text on a rate or on an error of the system */
-static char told[128];
-
 int64_t port_now(void)
 {
     struct timespec now;
@@ -94,8 +91,7 @@ static void catch_signals(void)
 
 static const char *tell_error(const char *what)
 {
-    snprintf(told, sizeof told, "%s: %s", what, strerror(errno));
-    return told;
+    return text_told("%s: %s", what, strerror(errno));
 }
 
 static bool is_pseudo(int fd)
@@ -137,21 +133,17 @@ const char *port_set(struct port *port, unsigned long baud, bool is_odd)
     make_settings(&wanted, !port->is_pseudo, baud, is_odd);
     if (ioctl(port->fd, TCSETS2, &wanted) != 0 || ioctl(port->fd, TCGETS2, &found) != 0)
         return tell_error("the tty refuses its settings");
-    if (((found.c_cflag ^ wanted.c_cflag) & looked_at) != 0) {
-        snprintf(told, sizeof told, "the tty does not take 8 bits, %s parity and 2 stop bits",
-                 is_odd ? "odd" : "even");
-        return told;
-    }
+    if (((found.c_cflag ^ wanted.c_cflag) & looked_at) != 0)
+        return text_told("the tty does not take 8 bits, %s parity and 2 stop bits",
+                         is_odd ? "odd" : "even");
     if (is_near(found.c_ispeed, baud) && is_near(found.c_ospeed, baud))
         return NULL;
-    snprintf(told, sizeof told, "the tty does not run at %lu baud", baud);
-    return told;
+    return text_told("the tty does not run at %lu baud", baud);
 }
 
 static const char *tell_holder(const char *name, long process)
 {
-    snprintf(told, sizeof told, "process %ld has ", process);
-    return text_quoted(told, name, "");
+    return text_quoted(text_told("process %ld has ", process), name, "");
 }
 
 /* The process that has locked a tty, or 0. The system's list of locks shows it without opening the
@@ -311,14 +303,16 @@ static const struct {
     { "DTR", TIOCM_DTR },
 };
 
+static const char *tell_signal(const char *what, enum port_signal signal)
+{
+    return tell_error(text_told("the tty does not %s its %s", what, SIGNALS[signal].name));
+}
+
 const char *port_look(const struct port *port, enum port_signal signal, bool *is_on)
 {
     int bits = 0;
-    if (ioctl(port->fd, TIOCMGET, &bits) != 0) {
-        snprintf(told, sizeof told, "the tty does not return its %s: %s", SIGNALS[signal].name,
-                 strerror(errno));
-        return told;
-    }
+    if (ioctl(port->fd, TIOCMGET, &bits) != 0)
+        return tell_signal("return", signal);
     *is_on = (bits & SIGNALS[signal].bit) != 0;
     return NULL;
 }
@@ -328,16 +322,12 @@ const char *port_drive(const struct port *port, enum port_signal signal, bool is
     int bit = SIGNALS[signal].bit;
     bool found = !is_on;
     const char *fault = NULL;
-    if (ioctl(port->fd, is_on ? TIOCMBIS : TIOCMBIC, &bit) != 0) {
-        snprintf(told, sizeof told, "the tty does not set its %s: %s", SIGNALS[signal].name,
-                 strerror(errno));
-        return told;
-    }
+    if (ioctl(port->fd, is_on ? TIOCMBIS : TIOCMBIC, &bit) != 0)
+        return tell_signal("set", signal);
     fault = port_look(port, signal, &found);
     if (fault != NULL || found == is_on)
         return fault;
-    snprintf(told, sizeof told, "the tty does not set its %s", SIGNALS[signal].name);
-    return told;
+    return text_told("the tty does not set its %s", SIGNALS[signal].name);
 }
 
 void port_drop(struct port *port)

@@ -1,4 +1,5 @@
 #include "serial_t1.h"
+#include "text.h"
 
 /* what is known of a command, by its number in galliumtoad.h */
 static const char *const OUTCOMES[] = {
@@ -9,8 +10,6 @@ static const char *const OUTCOMES[] = {
 
 /* the second byte of S(IFS request), which this end sends before its first command alone */
 #define IFS_REQUEST 0xC1
-
-static char told[160];
 
 struct t1_times t1_times_of(const struct line *line, const gt_atr_t1 *says, unsigned long clock)
 {
@@ -52,8 +51,7 @@ static const char *give_up(struct t1_end *t1)
     int32_t cause = GT_OK, outcome = GT_UNKNOWN;
     if (gt_t1_fault(&t1->end, &cause, &outcome) != GT_OK)
         return gt_text(GT_FAILED);
-    snprintf(told, sizeof told, "%s: %s", gt_text(cause), OUTCOMES[outcome]);
-    return told;
+    return text_told("%s: %s", gt_text(cause), OUTCOMES[outcome]);
 }
 
 /* Sends the end's block, and takes the card's. A line that echoes returns all blocks, the first of

@@ -1,6 +1,6 @@
 #include "steps.h"
-#include "print.h"
 #include "program.h"
+#include "text.h"
 
 #include <stdio.h>
 
@@ -14,6 +14,19 @@ static const char *carry_out(const struct steps *steps, gt_terminal *terminal,
     return code == GT_OK ? steps->pass(steps->line, terminal, operation) : gt_text(code);
 }
 
+/* Prints the answer of the operation that has ended, as card_trace does. */
+static const char *print_answer(gt_terminal *terminal, uint16_t *status)
+{
+    static uint8_t data[GT_RESPONSE_LIMIT];
+    char mark[sizeof "= 9000 "];
+    size_t n = 0;
+    const int32_t code = gt_terminal_answer(terminal, status, data, sizeof data, &n);
+    if (code != GT_OK)
+        return gt_text(code);
+    snprintf(mark, sizeof mark, "= %04X%s", (unsigned)*status, n > 0 ? " " : "");
+    return text_print_bytes(stdout, mark, data, n);
+}
+
 /* Carries out one step. `fault` gets the text on it, or NULL. */
 static enum outcome carry_out_step(const struct steps *steps, gt_terminal *terminal,
                                    const struct operation *operation, const char **fault)
@@ -22,7 +35,7 @@ static enum outcome carry_out_step(const struct steps *steps, gt_terminal *termi
     uint16_t status = 0;
     *fault = carry_out(steps, terminal, operation);
     if (*fault == NULL)
-        *fault = print_answer(stdout, terminal, &status);
+        *fault = print_answer(terminal, &status);
     if (*fault != NULL)
         return FAILED;
     *fault = operation_answer_fault(operation, terminal);

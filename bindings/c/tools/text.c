@@ -1,28 +1,12 @@
 #include "text.h"
 
+#include <stdarg.h>
 #include <stdio.h>
+#include <stdlib.h>
 #include <string.h>
 
-char *text_word(char **line)
-{
-    char *start = *line + strspn(*line, " ");
-    const size_t n = strcspn(start, " ");
-    if (n == 0)
-        return NULL;
-    *line = start + n;
-    if (**line != '\0')
-        *(*line)++ = '\0';
-    return start;
-}
-
-/* The value of a digit, or 16 if it is not a digit. */
-static unsigned digit(char c)
-{
-    static const char digits[] = "0123456789ABCDEFabcdef";
-    const char *found = c != '\0' ? strchr(digits, c) : NULL;
-    const unsigned place = found != NULL ? (unsigned)(found - digits) : 16;
-    return found != NULL && place >= 16 ? place - 6 : place;
-}
+/* the last text of `text_told` */
+static char told[400];
 
 size_t text_hex_size(const char *digits)
 {
@@ -33,15 +17,15 @@ void text_hex_bytes(const char *digits, uint8_t *out)
 {
     const size_t n = text_hex_size(digits);
     size_t i;
-    for (i = 0; i < n; i++)
-        out[i] = (uint8_t)(digit(digits[2 * i]) << 4 | digit(digits[2 * i + 1]));
+    for (i = 0; i < n; i++) {
+        const char two[3] = { digits[2 * i], digits[2 * i + 1], '\0' };
+        out[i] = (uint8_t)strtoul(two, NULL, 16);
+    }
 }
 
 const char *text_hex_fault(const char *digits)
 {
-    size_t n = 0;
-    while (digit(digits[n]) < 16)
-        n++;
+    const size_t n = strspn(digits, "0123456789ABCDEFabcdef");
     if (digits[n] != '\0')
         return "a character that is not a digit";
     if (n == 0)
@@ -92,11 +76,30 @@ void text_print(FILE *out, const char *text)
     }
 }
 
+const char *text_print_bytes(FILE *out, const char *mark, const uint8_t *bytes, size_t n)
+{
+    size_t i;
+    fputs(mark, out);
+    for (i = 0; i < n; i++)
+        fprintf(out, "%02X", bytes[i]);
+    fputc('\n', out);
+    return fflush(out) == 0 && !ferror(out) ? NULL : "write fault";
+}
+
+/* A value may be the last text, so the next one is made in another place. */
+const char *text_told(const char *format, ...)
+{
+    char text[sizeof told];
+    va_list values;
+    va_start(values, format);
+    vsnprintf(text, sizeof text, format, values);
+    va_end(values);
+    return strcpy(told, text);
+}
+
 const char *text_quoted(const char *before, const char *word, const char *behind)
 {
-    static char told[320];
-    const char *more = strlen(word) > 60 ? ".." : "";
-    snprintf(told, sizeof told, "%s'%.60s%s'%s", before, word, more, behind);
+    text_told("%s'%.60s%s'%s", before, word, strlen(word) > 60 ? ".." : "", behind);
     text_calm(told);
     return told;
 }

@@ -1,4 +1,4 @@
-/* Words and hexadecimal digits of a line of text. */
+/* Hexadecimal digits, and texts for users. */
 #ifndef TEXT_H
 #define TEXT_H
 
@@ -6,10 +6,6 @@
 #include <stddef.h>
 #include <stdint.h>
 #include <stdio.h>
-
-/* Takes the next word of a line, or returns NULL if no word is left. Spaces separate words. The
- * word gets a NUL after it, and `line` continues after that. */
-char *text_word(char **line);
 
 /* How many bytes the hexadecimal digits spell, in either case: at least one. 0: the text is not of
  * that kind. */
@@ -28,8 +24,15 @@ void text_calm(char *text);
 /* Prints a text with these replaced. */
 void text_print(FILE *out, const char *text);
 
-/* `BEFORE'WORD'BEHIND`, with the first 60 bytes of the word, as `text_calm` leaves it. The text
- * stays until the next call of this function or the next. */
+/* Prints a mark, the bytes in hexadecimal, and the end of a line, at once. Returns NULL, or a few
+ * words that say why that failed. */
+const char *text_print_bytes(FILE *out, const char *mark, const uint8_t *bytes, size_t n);
+
+/* The text of a format as of printf, up to 399 bytes. It stays until the next call of this function
+ * or one of the next two. The last text may be one of the values. */
+__attribute__((format(printf, 1, 2))) const char *text_told(const char *format, ...);
+
+/* `BEFORE'WORD'BEHIND`, with the first 60 bytes of the word, as `text_calm` leaves it. */
 const char *text_quoted(const char *before, const char *word, const char *behind);
 
 /* The same of a fault: `WHAT: 'WORD': WHY`. */

@@ -1,6 +1,6 @@
 // Tests what calls of galliumtoad.hpp pass to the archive, and that they return the archive's code:
-// those that same.py has no rule for, and one of each kind that it has. The stand-ins for the
-// archive are those of forwards.c, which tests the header for C.
+// those that same.py has no rule for, and one with a span and one that asks, for the macros. The
+// stand-ins for the archive are those of forwards.c, which tests the header for C.
 #include <galliumtoad.hpp>
 
 #define STAND_INS_ALONE
@@ -11,8 +11,6 @@ using namespace galliumtoad;
 // Each has an address and a size of its own.
 static const uint8_t bytes[23] = {}, more[29] = {};
 static uint8_t buffer[31];
-static uint16_t status;
-static size_t n, m;
 static const Bytes in(bytes, 23), second(more, 29);
 static const Room to(buffer, 31);
 #define IN P(bytes), 23
@@ -34,11 +32,8 @@ static const Room to(buffer, 31);
     } while (0)
 
 static void of_no_handle() {
-    static gt_object objects_[3];
     Pps request;
     bool is;
-    HANDS(objects(in, Span<gt_object>(objects_, 3), n, m), "objects", IN, P(objects_), 3, P(&n),
-          P(&m));
     HANDS(pps_request(request, 1, 2, 3, 4), "pps_request", 1, 2, 3, 4, P(request.bytes),
           GT_PPS_LIMIT, P(&request.count));
     HANDS(pps_request(request, 1), "pps_request", 1, 256, 256, 256, P(request.bytes), GT_PPS_LIMIT,
@@ -63,49 +58,32 @@ static void of_objects() {
     CHECK(notes[0].what[1], 23);
 }
 
-static void of_exchange() {
-    Exchange e;
-    Tpdu tpdu;
-    HANDS(e.start(in), "exchange_start", P(e.handle()), IN);
-    HANDS(e.tpdu(tpdu, m), "exchange_tpdu", P(e.handle()), P(tpdu.bytes), GT_TPDU_LIMIT,
-          P(&tpdu.count), P(&m));
-    HANDS(e.answer(status, to, n), "exchange_answer", P(e.handle()), P(&status), TO, P(&n));
-}
-
 static void of_t1() {
     T1 t;
     Code cause = Code::Busy;
     Outcome outcome = Outcome::InPart;
-    HANDS(t.create(Edc::Crc, 200, 3, 999, 300), "t1_new", P(t.handle()), GT_CRC, 200, 3, 999, 300);
     HANDS(t.create(Edc::Lrc, 32), "t1_new", P(t.handle()), GT_LRC, 32, 4, 1000, 258);
     HANDS(t.fault(cause, outcome), "t1_fault", P(t.handle()), ANY, ANY);
     // a stand-in sets nothing
     CHECK(cause, GT_BUSY);
     CHECK(outcome, GT_IN_PART);
-    HANDS(t.reset(), "t1_reset", P(t.handle()));
 }
 
 static void of_card() {
     Card c;
     Entry it;
     const Directions ways = GT_ISO_DIRECTIONS;
-    bool is;
     HANDS(c.object(0x5F20, in), "card_object", P(c.handle()), 0x5F20, IN, 0);
-    HANDS(c.object(0x5F20, in, true), "card_object", P(c.handle()), 0x5F20, IN, 1);
-    HANDS(c.plan(text(3), 7), "card_plan", P(c.handle()), P(text(3)), 3, 7);
     HANDS(c.plan(text(3)), "card_plan", P(c.handle()), P(text(3)), 3, 256);
     HANDS(c.entry_at(5, 6, it, to), "card_entry_at", P(c.handle()), 5, 6, P(&it.tag), P(&it.locked),
           TO, P(&it.count));
     HANDS(c.own(&ways), "card_own", P(c.handle()), P(ways), 32);
     HANDS(c.own(), "card_own", P(c.handle()), ANY, 0);
-    ASKS(c.settled(is), is, "card_settled", P(c.handle()));
 }
 
 static void of_session() {
     Session s;
-    Card c;
     Entry it;
-    HANDS(s.start(c), "session_start", P(s.handle()), P(c.handle()));
     HANDS(s.plan(text(3)), "session_plan", P(s.handle()), P(text(3)), 3, 256);
     HANDS(s.entry_at(5, 6, it, to), "session_entry_at", P(s.handle()), 5, 6, P(&it.tag),
           P(&it.locked), TO, P(&it.count));
@@ -167,7 +145,6 @@ int main() {
     memset(letters, 'o', LETTERS);
     of_no_handle();
     of_objects();
-    of_exchange();
     of_t1();
     of_card();
     of_session();

@@ -27,8 +27,6 @@ static void of_texts() {
     CHECK(Outcome::NotCarriedOut, GT_NOT_CARRIED_OUT);
     CHECK(Outcome::Unknown, GT_UNKNOWN);
     CHECK(Outcome::InPart, GT_IN_PART);
-    CHECK(version(), GT_VERSION);
-    CHECK(version_fits(), 1);
 }
 
 static size_t size_of(Bytes bytes) { return bytes.size(); }

@@ -17,7 +17,7 @@ void galliumtoad_card_new(void) { abort(); }
 
 static struct {
     unsigned (*status)(void);
-    size_t (*requests)(void), (*taken)(void);
+    size_t (*peak)(void), (*taken)(void);
 } plugins[MOST];
 
 static void load(size_t i, const char *name) {
@@ -27,7 +27,7 @@ static void load(size_t i, const char *name) {
         exit(1);
     }
     *(void **)&plugins[i].status = dlsym(loaded, "plugin_status");
-    *(void **)&plugins[i].requests = dlsym(loaded, "plugin_requests");
+    *(void **)&plugins[i].peak = dlsym(loaded, "plugin_peak");
     *(void **)&plugins[i].taken = dlsym(loaded, "plugin_taken");
 }
 
@@ -37,11 +37,11 @@ int main(int argc, char **argv) {
     if (count < 2 || count > MOST) return 2;
     for (i = 0; i < count; i++) load(i, argv[i + 1]);
     for (i = 0; i < count; i++) {
-        for (j = 0; j < count; j++) before[j] = plugins[j].requests();
+        for (j = 0; j < count; j++) before[j] = plugins[j].peak();
         CHECK(plugins[i].status(), 0x9000);
         for (j = 0; j < count; j++)
-            if (j != i) CHECK(plugins[j].requests(), before[j]);
-        CHECK(plugins[i].requests() > 0, 1);
+            if (j != i) CHECK(plugins[j].peak(), before[j]);
+        CHECK(plugins[i].peak() > 0, 1);
         CHECK(plugins[i].taken(), 0);
     }
     return check_result("host");

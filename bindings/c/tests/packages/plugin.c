@@ -1,12 +1,12 @@
 /* A plugin: it builds a card that answers a SELECT, in its own memory. */
 #include <galliumtoad.h>
 
-#ifdef OWN_HEAP
-#include "counting_heap.h"
-size_t plugin_requests(void) { return requests; }
-size_t plugin_taken(void) { return taken; }
+#ifdef GT_ARENA_SIZE
+#include "arena.c"
+size_t plugin_peak(void) { return gt_arena_peak(); }
+size_t plugin_taken(void) { return gt_arena_used(); }
 #else
-size_t plugin_requests(void) { return 1; }
+size_t plugin_peak(void) { return 1; }
 size_t plugin_taken(void) { return 0; }
 #endif
 

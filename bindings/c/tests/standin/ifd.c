@@ -142,8 +142,7 @@ static void two_cards(void)
     check_power(OTHER, IFD_POWER_UP, "\x3B\x65\x00\x00\x20\x63\xCB\x68\x00", 9);
     CHECK_ANSWER(ONE, SELECT, "\x61\x0B");
     CHECK_ANSWER(OTHER, GET, "\x69\x85");
-    CHECK_ANSWER(ONE, "\x00\xC0\x00\x00\x0B",
-                 "\x6F\x09\x84\x07\xA0\x00\x00\x00\x03\x10\x10\x90\x00");
+    CHECK_ANSWER(ONE, "\x00\xC0\x00\x00\x0B", SELECTED);
     CHECK_ANSWER(OTHER, SELECT, "\x61\x0B");
     CHECK_ANSWER(ONE, GET_NAME, "\x5F\x20\x03JOE\x90\x00");
     CHECK_ANSWER(OTHER, GET_NAME, "\x5F\x20\x03" "ANN\x90\x00");
@@ -178,8 +177,7 @@ static void le_behind_data(void)
 {
     CHECK_ANSWER(ONE, SELECT "\x00", "\x61\x0B");
     CHECK_ANSWER(ONE, SELECT "\x0B", "\x61\x0B");
-    CHECK_ANSWER(ONE, "\x00\xC0\x00\x00\x0B",
-                 "\x6F\x09\x84\x07\xA0\x00\x00\x00\x03\x10\x10\x90\x00");
+    CHECK_ANSWER(ONE, "\x00\xC0\x00\x00\x0B", SELECTED);
     CHECK_ANSWER(ONE, "\x00\xDA\x5F\x20\x01" "A\x00", "\x90\x00");
     CHECK_ANSWER(ONE, "\x00\xCA\x5F\x20\x04", "\x5F\x20\x01" "A\x90\x00");
     CHECK_FAULT(ONE, 0, SELECT "\x00\x00", 258, IFD_COMMUNICATION_ERROR);
@@ -260,40 +258,21 @@ static void tables(void)
     CHECK(IFDHCloseChannel(NONE), IFD_SUCCESS);
 }
 
-/* A fault of a table prints the file, and the line or the reason, on standard error. */
+/* A fault of a table prints the file, and the line or the reason, on standard error: try_pcsc has
+ * these lines, which are the last. */
 static void told_faults(void)
 {
-    static const char *const wanted[] = {
-        "2.table: line 2: bad argument", "there.table: No such file or directory",
-        "there.table: line 1: bad argument", "/dev/null: not a regular file", ".: Is a directory",
-        "ifd.told/table: Not a directory"
-    };
-    char name[] = "there.table", folder[] = ".", under[] = "ifd.told/table", line[128] = "";
-    char device[] = "/dev/null";
-    size_t i;
-    FILE *file = freopen("ifd.told", "w", stderr);
-    CHECK(file != NULL, 1);
+    char name[] = "there.table", folder[] = ".", under[] = "2.table/table", device[] = "/dev/null";
     CHECK(create(NONE, "app A000000003\nobject 50\n"), IFD_COMMUNICATION_ERROR);
     CHECK(IFDHCreateChannelByName(NONE, name), IFD_SUCCESS);
     write_file(name, "app A0\n");
     CHECK(IFDHICCPresence(NONE), IFD_ICC_NOT_PRESENT);
     CHECK(IFDHICCPresence(NONE), IFD_ICC_NOT_PRESENT);
     CHECK(IFDHCloseChannel(NONE), IFD_SUCCESS);
-    remove(name);
     CHECK(IFDHCreateChannelByName(NONE, device), IFD_SUCCESS);
     CHECK(IFDHCloseChannel(NONE), IFD_SUCCESS);
     CHECK(IFDHCreateChannelByName(NONE, folder), IFD_COMMUNICATION_ERROR);
     CHECK(IFDHCreateChannelByName(NONE, under), IFD_COMMUNICATION_ERROR);
-    fclose(stderr);
-    file = fopen("ifd.told", "r");
-    for (i = 0; i < sizeof wanted / sizeof wanted[0]; i++) {
-        CHECK(file != NULL && fgets(line, sizeof line, file) != NULL, 1);
-        line[strcspn(line, "\n")] = '\0';
-        CHECK(strcmp(line, wanted[i]), 0);
-    }
-    CHECK(file != NULL && fgets(line, sizeof line, file) == NULL, 1);
-    fclose(file);
-    remove("ifd.told");
 }
 
 /* A card that offers T=1 alone takes whole commands, and answers each of them. */
@@ -476,38 +455,30 @@ static void other_tables(void)
     remove(name);
 }
 
-/* A slot that starts empty gets its card at once when there is a file. */
-static void starts_empty(void)
+/* A slot gets its card at once when there is a table. A pipe in its place would wait for a writer:
+ * it is as no file, at the start and later. */
+static void slots(void)
 {
+    static const char *const FILES[] = { "-t", "ptp" }; /* no file, tables and pipes */
     char with_colon[] = "table:2.table";
-    remove(file_of(NONE));
-    CHECK(IFDHCreateChannelByName(NONE, with_colon), IFD_SUCCESS);
-    CHECK(IFDHICCPresence(NONE), IFD_ICC_NOT_PRESENT);
-    CHECK_FAULT(NONE, 0, GET_NAME, 258, IFD_ICC_NOT_PRESENT);
-    write_table(NONE, NAMES);
-    CHECK(IFDHICCPresence(NONE), IFD_ICC_PRESENT);
-    check_power(NONE, IFD_POWER_UP, "\x3B\x00", 2);
-    remove(file_of(NONE));
-    CHECK(IFDHCloseChannel(NONE), IFD_SUCCESS);
-}
-
-/* A pipe in the place of a table would wait for a writer: it is as no file, at the start and
- * later. */
-static void pipes(void)
-{
+    const char *file;
+    size_t i;
     alarm(60);
-    remove(file_of(NONE));
-    CHECK(mkfifo(file_of(NONE), 0600), 0);
-    CHECK(IFDHCreateChannelByName(NONE, file_of(NONE)), IFD_SUCCESS);
-    CHECK(IFDHICCPresence(NONE), IFD_ICC_NOT_PRESENT);
-    remove(file_of(NONE));
-    write_table(NONE, NAMES);
-    CHECK(IFDHICCPresence(NONE), IFD_ICC_PRESENT);
-    remove(file_of(NONE));
-    CHECK(mkfifo(file_of(NONE), 0600), 0);
-    CHECK(IFDHICCPresence(NONE), IFD_ICC_NOT_PRESENT);
-    CHECK_FAULT(NONE, 0, GET_NAME, 258, IFD_ICC_NOT_PRESENT);
-    CHECK(IFDHCloseChannel(NONE), IFD_SUCCESS);
+    for (i = 0; i < sizeof FILES / sizeof FILES[0]; i++) {
+        for (file = FILES[i]; *file != '\0'; file++) {
+            remove(file_of(NONE));
+            if (*file == 't')
+                write_table(NONE, NAMES);
+            if (*file == 'p')
+                CHECK(mkfifo(file_of(NONE), 0600), 0);
+            if (file == FILES[i])
+                CHECK(IFDHCreateChannelByName(NONE, with_colon), IFD_SUCCESS);
+            CHECK(IFDHICCPresence(NONE), *file == 't' ? IFD_ICC_PRESENT : IFD_ICC_NOT_PRESENT);
+            if (*file != 't')
+                CHECK_FAULT(NONE, 0, GET_NAME, 258, IFD_ICC_NOT_PRESENT);
+        }
+        CHECK(IFDHCloseChannel(NONE), IFD_SUCCESS);
+    }
     remove(file_of(NONE));
     alarm(0);
 }
@@ -579,8 +550,7 @@ int main(void)
     both_protocols();
     own_application();
     other_tables();
-    starts_empty();
-    pipes();
+    slots();
     comes_and_goes();
     other_protocols();
     long_names();

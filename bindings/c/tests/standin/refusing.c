@@ -1,13 +1,10 @@
-/* malloc and realloc, for programs that are linked with --wrap of both. They refuse the request
- * with the number REFUSE_AT of the environment, counted from 1, and note that in the stand-in's
- * log. */
+/* malloc, for programs that are linked with --wrap of it. It refuses the request with the number
+ * REFUSE_AT of the environment, counted from 1, and notes that in the stand-in's log. */
 #include <stdio.h>
 #include <stdlib.h>
 
 void *__real_malloc(size_t size);
-void *__real_realloc(void *block, size_t size);
 void *__wrap_malloc(size_t size);
-void *__wrap_realloc(void *block, size_t size);
 
 static int is_refused(void)
 {
@@ -27,9 +24,4 @@ static int is_refused(void)
 void *__wrap_malloc(size_t size)
 {
     return is_refused() ? NULL : __real_malloc(size);
-}
-
-void *__wrap_realloc(void *block, size_t size)
-{
-    return is_refused() ? NULL : __real_realloc(block, size);
 }

@@ -12,6 +12,7 @@
 #define _POSIX_C_SOURCE 200112L
 
 #include "table.h"
+#include "text.h"
 
 #include <winscard.h>
 
@@ -51,14 +52,8 @@ static FILE *log_file(void)
 static void note(const char *words, const uint8_t *bytes, size_t n)
 {
     FILE *file = log_file();
-    size_t i;
-    if (file == NULL)
-        return;
-    fputs(words, file);
-    for (i = 0; i < n; i++)
-        fprintf(file, "%02X", bytes[i]);
-    fputc('\n', file);
-    fflush(file);
+    if (file != NULL)
+        text_print_bytes(file, words, bytes, n);
 }
 
 /* The words for the protocols that a call asks for: empty for both. */
@@ -409,16 +404,10 @@ LONG SCardEndTransaction(SCARDHANDLE handle, DWORD disposition)
 /* Changes an answer of `n` bytes as a faulty reader does. `answer` has room for LONG_ANSWER. */
 static size_t spoil(const char *word, uint8_t *answer, size_t n)
 {
-    static const uint8_t get_response[] = { 0x00, 0xC0, 0x00, 0x00 };
     const unsigned long status = strtoul(word, NULL, 16);
-    uint8_t tpdu[5];
-    size_t fetched = 2;
-    if (strcmp(word, "none") == 0)
-        return 0;
-    if (strcmp(word, "short") == 0)
-        return 1;
-    if (strcmp(word, "cut") == 0)
-        return n - 1;
+    const size_t count = strtoul(word + strcspn(word, "0123456789"), NULL, 10);
+    if (strncmp(word, "left", 4) == 0) /* the first bytes alone */
+        return count;
     if (strlen(word) == 4 && status > 0xFFF) { /* another status */
         answer[n - 2] = (uint8_t)(status >> 8);
         answer[n - 1] = (uint8_t)status;
@@ -429,34 +418,20 @@ static size_t spoil(const char *word, uint8_t *answer, size_t n)
         return n + 1;
     }
     if (strncmp(word, "drop", 4) == 0) { /* without the first bytes of data */
-        const size_t dropped = strtoul(word + 4, NULL, 10);
-        memmove(answer, answer + dropped, n - dropped);
-        return n - dropped;
+        memmove(answer, answer + count, n - count);
+        return n - count;
     }
     if (strcmp(word, "tail") == 0) { /* one more byte of data, at the end */
         memmove(answer + n - 1, answer + n - 2, 2);
         answer[n - 2] = 0x00;
         return n + 1;
     }
-    if (strcmp(word, "flip") == 0) { /* another last byte of data */
-        answer[n - 3] ^= 1;
-        return n;
-    }
-    if (strcmp(word, "other") == 0) { /* another tag of two bytes */
-        answer[1] ^= 1;
-        return n;
-    }
+    if (strncmp(word, "flip", 4) == 0) /* another byte in this place */
+        answer[count] ^= 1;
     if (strcmp(word, "long") == 0) {
         memset(answer, 0x90, LONG_ANSWER);
         answer[LONG_ANSWER - 1] = 0x00;
         return LONG_ANSWER;
-    }
-    if (strcmp(word, "fetch") == 0 && answer[n - 2] == 0x61) { /* the reader's own GET RESPONSE */
-        memcpy(tpdu, get_response, sizeof get_response);
-        tpdu[4] = answer[n - 1];
-        if (gt_card_tpdu(&card, tpdu, sizeof tpdu, answer + n - 2, GT_ANSWER_LIMIT, &fetched) < 0)
-            abort();
-        return n - 2 + fetched;
     }
     return n;
 }
@@ -483,7 +458,7 @@ LONG SCardTransmit(SCARDHANDLE handle, const SCARD_IO_REQUEST *protocol, LPCBYTE
                    SCARD_IO_REQUEST *answered, LPBYTE received, LPDWORD length)
 {
     static unsigned long time;
-    uint8_t answer[2 * LONG_ANSWER];
+    uint8_t answer[LONG_ANSWER];
     size_t size = 0;
     LONG fault = fault_of("transmit", ++time);
     const char *word = words_of("transmit", time);

@@ -3,7 +3,7 @@
     python3 -m galliumtoad.simulate --application payment:Payment --vpcd
 """
 
-from galliumtoad import Application, Command, Exchange, OwnCard
+from galliumtoad import Application, Command
 
 PPSE, AID = b"2PAY.SYS.DDF01", bytes.fromhex("A0000000041010")
 PIN, TRIES = b"1234", 3
@@ -104,11 +104,3 @@ class Payment(Application):
         found = {b"\x9F\x36": tlv("9F36", self.transactions.to_bytes(2, "big")),
                  b"\x9F\x17": tlv("9F17", bytes([TRIES - self.wrong]))}.get(command.header[2:])
         return (OK, found) if self.selected and found else (NO_OBJECT, b"")
-
-
-if __name__ == "__main__":
-    with OwnCard(Payment()) as card, Exchange(b"\x00\xA4\x04\x00\x0E" + PPSE + b"\x00") as it:
-        while (answer := it.answer()) is None:
-            card.receive_bytes(it.send_bytes())
-            it.receive_bytes(card.send_bytes())
-        print(answer.status.text, answer.data.hex())

@@ -3,7 +3,7 @@
     python3 -m galliumtoad.simulate --application uicc:Uicc --vpcd
 """
 
-from galliumtoad import Application, Command, Exchange, OwnCard
+from galliumtoad import Application, Command
 
 MF, DIR, ICCID, ADF, IMSI, AD = 0x3F00, 0x2F00, 0x2FE2, 0x7FFF, 0x6F07, 0x6FAD
 AID, PIN, TRIES = bytes.fromhex("A0000000871002"), b"1234".ljust(8, b"\xFF"), 3
@@ -119,11 +119,3 @@ class Uicc(Application):
         if self.wrong == TRIES:
             return 0x6983, b""
         return (0x9000 if command.data and self.is_open else 0x63C0 | TRIES - self.wrong), b""
-
-
-if __name__ == "__main__":
-    with OwnCard(Uicc()) as card, Exchange(bytes.fromhex("00A40004022FE200")) as it:
-        while (answer := it.answer()) is None:
-            card.receive_bytes(it.send_bytes())
-            it.receive_bytes(card.send_bytes())
-        print(answer.status.text, answer.data.hex())

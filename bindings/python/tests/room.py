@@ -1,6 +1,7 @@
 """A room for tests of batches: readers of the stand-in for pyscard, a table, a script, and runs of
 the program."""
 
+import argparse
 import contextlib
 import io
 import json
@@ -10,8 +11,10 @@ import re
 import signal
 import subprocess
 import sys
+import threading
 from pathlib import Path
 
+import pytest
 from waiting import wait_until
 
 HERE = Path(__file__).resolve().parent
@@ -39,6 +42,25 @@ def ended(run, seconds=100):
     except subprocess.TimeoutExpired:
         os.killpg(run.pid, signal.SIGKILL)
         raise
+
+
+def with_standin(folder="/", **more):
+    """The environment of a program with the stand-in for pyscard, whose readers are in a folder."""
+    paths = ":".join([str(STANDIN), *filter(None, [os.environ.get("PYTHONPATH")])])
+    return {**os.environ, "STANDIN": str(folder), "PYTHONPATH": paths, **more}
+
+
+def lines_up_to(run, *texts):
+    """The lines that a run prints up to the one with the last of these texts, in any order. Kills a
+    run that does not print them."""
+    killer, lines, left = threading.Timer(60, run.kill), [], set(texts)
+    killer.start()
+    while left and (line := run.stdout.readline()):
+        lines.append(line)
+        left -= {it for it in left if it in line}
+    killer.cancel()
+    assert not left
+    return lines
 
 
 def interruptible(room, *words, handler=signal.default_int_handler):
@@ -85,25 +107,25 @@ def steps_of(script, row):
 
 class Room:
     """A folder with readers, a table and a script. A run creates the journal if it is missing, and
-    writes the cards that lie in the readers."""
+    writes the cards that lie in the readers, which have the number `card`. `environment` has
+    variables of the stand-in for pyscard."""
 
-    def __init__(self, path, rows, readers=1):
+    def __init__(self, path, rows, readers=1, card=0, **environment):
         self.path, self.is_apart = path, False
         (path / "cards").mkdir()
         # two runs of these tests at the same time have different readers
         self.names = [f"Slot{at}-{os.getpid()}" for at in range(readers)]
         for name in self.names:
-            self.add_reader(name)
+            self.add_reader(name, card)
         lines = [f"PERSON {at},{at:08X}" for at in range(1, rows + 1)]
         self.write("rows.csv", "\n".join(["name,code", *lines]) + "\n")
         self.write("script", SCRIPT)
         self.readers = [f"--reader=Slot{at}" for at in range(readers)]
-        paths = [str(STANDIN), *filter(None, [os.environ.get("PYTHONPATH")])]
-        self.environment = dict(os.environ, STANDIN=str(path), PYTHONPATH=":".join(paths))
+        self.environment = with_standin(path, **environment)
 
-    def add_reader(self, name):
+    def add_reader(self, name, card=0):
         (self.path / name).mkdir(exist_ok=True)
-        self.put_in(name, "0")
+        self.put_in(name, card)
 
     def id_of(self, number, reader=0):
         """The identifier of a reader's card of this number."""
@@ -140,6 +162,12 @@ class Room:
             program, cwd=self.path, env=self.environment, start_new_session=True, **pipes
         )
 
+    def start_full(self, size, **how):
+        """Starts a run whose files have at most this number of bytes."""
+        program = self.words(**how)
+        program[1:3] = ["-c", FULL.format(size)]
+        return self.start_program(program)
+
     def run(self, *words, go=True):
         """Runs the program, in this process unless `is_apart` is set. Returns its status, output
         and errors."""
@@ -162,6 +190,14 @@ class Room:
         from galliumtoad.batch.journal import Journal
 
         return Journal(str(self.path / "journal"), str(self.path / "rows.csv"), rows)
+
+    def desk(self, rows):
+        """A run of this number of rows without an operation, which has not begun."""
+        self.run("--check")  # so that there is a module `smartcard`
+        from galliumtoad.batch.desk import Desk
+
+        given = argparse.Namespace(go=True, stop_after=1, reader=[], report=None)
+        return Desk([[]] * rows, self.opened(rows), given)
 
     def journal(self):
         return (self.path / "journal").read_text().splitlines()
@@ -186,6 +222,12 @@ class Room:
             assert whole in (0, 1)
             self.run(f"--{'done' if whole else 'again'}={row}")
 
+    def finish(self, rows, *words):
+        """Runs and decides until all rows are done, each whole on one card."""
+        while (status := self.run(*words, go=False)[0]) == 1:
+            self.decide()
+        assert status == 0 and [self.cards_of(row)[0] for row in range(1, rows + 1)] == [1] * rows
+
     def held(self):
         """The contents of each card, by the name of its file."""
         files = [it for it in self.path.glob("cards/*") if it.suffix == ""]
@@ -199,32 +241,25 @@ class Room:
         return sum(whole.items() <= it.items() for it in mine), len(mine)
 
 
-def too_long(*_):
-    raise AssertionError("the run does not end")
-
-
 def main_of(room, words):
     """Runs the program in this process. Fails if it does not end in a minute."""
-    if str(STANDIN) not in sys.path:
-        sys.path.insert(0, str(STANDIN))
-    before, folder = dict(os.environ), os.getcwd()
     out, error = io.StringIO(), io.StringIO()
-    try:
-        os.environ.update(room.environment)
-        os.chdir(room.path)
+    with pytest.MonkeyPatch.context() as patch:
+        patch.chdir(room.path)
+        patch.syspath_prepend(STANDIN)
+        for name, it in room.environment.items():
+            patch.setenv(name, it)
         import smartcard
         from galliumtoad.batch import main
 
         smartcard.begin(room.path)
-        signal.signal(signal.SIGALRM, too_long)
+        signal.signal(signal.SIGALRM, lambda *_: pytest.fail("the run does not end"))
         signal.alarm(60)
-        with contextlib.redirect_stdout(out), contextlib.redirect_stderr(error):
-            status = main(words)
-    except SystemExit as end:
-        status = end.code
-    finally:
-        signal.alarm(0)
-        os.chdir(folder)
-        os.environ.clear()
-        os.environ.update(before)
+        try:
+            with contextlib.redirect_stdout(out), contextlib.redirect_stderr(error):
+                status = main(words)
+        except SystemExit as end:
+            status = end.code
+        finally:
+            signal.alarm(0)
     return status, out.getvalue(), error.getvalue()

@@ -18,7 +18,6 @@ from galliumtoad.simulate import Simulator, main
 from room import folder_of_programs
 from waiting import AtPty, wait_until
 
-SOURCE = Path(simulate.__file__).parent.parent
 EXAMPLES = Path(__file__).resolve().parents[1] / "examples"
 sys.path.insert(0, str(EXAMPLES))
 
@@ -72,9 +71,7 @@ class Card(AtPty):
     def __init__(self, *words, cwd=EXAMPLES):
         super().__init__(*words, "--no-echo", cwd=cwd)
         self.t1 = T1(self.carried) if words[-1] == T1_ATR else None
-        self.open()
-        wanted = bytes.fromhex(T1_ATR if self.t1 else "3B00")
-        assert self.read(len(wanted)) == wanted
+        self.open(T1_ATR if self.t1 else "3B00")
 
     def carried(self, data, waits):
         """Sends a block, and returns the received bytes."""
@@ -192,21 +189,16 @@ def test_a_program_ends_with_the_simulation():
     wait_until(lambda: not Path(f"/proc/{number}/exe").exists())
 
 
-def test_the_simulation_ends_with_its_program():
-    card = Card("--program", "sh -c 'read a; read a; echo from-card'")
-    os.write(card.line, bytes.fromhex("8010000000"))
-    assert card.program.wait(60) == 2
-    assert card.end()[1] == "the program at the line 'command 80100000 256': it has ended\n"
-
-
 @pytest.mark.parametrize(
     ("words", "text"),
     [(["--application", "nowhere:It"], "nowhere:It: No module named 'nowhere'"),
      (["--application", "counter:It"], "counter:It: module 'counter' has no attribute 'It'"),
      (["--application", "counter:EXAMPLES"], "has no attribute"),
      (["--application", "pathlib:Path"], "pathlib:Path is no Application"),
-     (["--application", ":"], "is not MODULE"), (["--program", "/none/at/all"], "No such file"),
-     (["--program", ""], "list index out of range"), (["--program", "'"], "No closing quotation")],
+     *((["--application", it], f"{it} is not MODULE:CLASS\n")
+       for it in (":", "counter", "counter:", ":Counter")),
+     (["--program", "/none/at/all"], "No such file"),
+     (["--program", " "], "list index out of range"), (["--program", "'"], "No closing quotation")],
 )
 def test_cards_that_can_not_be_made(capsys, monkeypatch, words, text):
     monkeypatch.setattr(simulate, "serve_pty", lambda *_: pytest.fail("it serves"))
@@ -219,8 +211,7 @@ def test_an_application_in_the_folder_of_its_user(tmp_path):
     """Also for the installed program, which Python starts from another folder."""
     (tmp_path / "simulate").write_text("from galliumtoad.simulate import main\nmain()\n")
     words = [sys.executable, tmp_path / "simulate", "--application", "counter:Counter", "--pty"]
-    made = subprocess.Popen(words, stdout=subprocess.PIPE, text=True, cwd=EXAMPLES,
-                            env={**os.environ, "PYTHONPATH": str(SOURCE)})
+    made = subprocess.Popen(words, stdout=subprocess.PIPE, text=True, cwd=EXAMPLES)
     assert made.stdout.readline().startswith("/dev/")
     made.kill()
     made.communicate()
@@ -315,7 +306,7 @@ NO_FILE = ": [Errno 2] No such file or directory: '/none'\n"
 def test_the_simulation_ends_at_such_a_result(tmp_path, method, does, said):
     """And at an error of the application, which is not the end of the line."""
     (tmp_path / "wrong.py").write_text(FAILS.replace("METHOD", method) + does)
-    card = AtPty("--application", "wrong:Wrong", "--no-echo", cwd=tmp_path).open()
+    card = AtPty("--application", "wrong:Wrong", "--no-echo", cwd=tmp_path).open("")
     os.write(card.line, bytes.fromhex("8010000000"))
     assert card.program.wait(60) == 2
     assert card.end()[1] == f"wrong:Wrong.{method}{said}"
@@ -337,9 +328,3 @@ def test_a_result_in_other_types(tmp_path, monkeypatch, result):
     made = application_of(tmp_path, monkeypatch, COUNTS.replace("RESULT", result))
     with Simulator(OwnCard(made)) as it:
         assert it(bytes.fromhex("8010000002")).hex() == "41429000"
-
-
-@pytest.mark.parametrize("name", ["counter", "counter:", ":Counter", ""])
-def test_an_application_without_its_class_or_module(name):
-    with pytest.raises(Mistake, match="is not MODULE:CLASS$"):
-        application(name)

@@ -1,7 +1,6 @@
 """Tests batches of cards, over a stand-in for pyscard that changes the cards. Runs are killed at
 random, have a full disk or a cut journal, run twice at once, or meet cards of another profile."""
 
-import argparse
 import fcntl
 import json
 import os
@@ -15,8 +14,8 @@ import time
 import pytest
 from galliumtoad import Card, Select, Terminal
 from galliumtoad.batch.script import Recorder, Script, carry_out, check_of
-from room import (AID, FULL, HERE, SCRIPT, STANDIN, Room, ended, interruptible, listed, refused,
-                  steps_of, told)
+from room import (AID, HERE, SCRIPT, STANDIN, Room, ended, interruptible, lines_up_to, listed,
+                  refused, steps_of, told)
 
 sys.path.append(str(HERE.parents[2] / "checks/program"))
 import operations  # noqa: E402
@@ -97,56 +96,44 @@ def test_no_other_program_has_the_card_and_it_is_reset(tmp_path, monkeypatch, co
     assert asked == [(None, scard.SCARD_SHARE_EXCLUSIVE, scard.SCARD_RESET_CARD)]
 
 
-def outcome_of(script, reader):
-    """How a row ends, and why, if a reader carries out this script."""
-    row = {"name": "PERSON 1", "code": "00000001"}
-    made = Script("script", script, [*row])
-    return carry_out(steps_of(made, row), Recorder(reader))
+# Operations after a select; an INS, and what the card answers to it in place of its own answer; how
+# the row ends, and why. A card that refuses a put or a send may hold a part of the row.
+OTHER = "put 5F20 was answered 9000, and read back another value"
+NOTHING = "put 5F20 was answered 9000, and read back nothing"
+OUTCOMES = [
+    ("put 5F20 @{name}\nget 5F20", None, "", "done", ""),
+    ("put 50 41*8192", None, "", "done", ""),  # a card takes no more
+    ("send 00DA5F200141\nget 50", 0xCA, "564953419000", "failed",
+     "get 50 was answered 9000, but not with this object"),
+    ("get 50", 0xCA, "564953419000", "unused",
+     "get 50 was answered 9000, but not with this object"),
+    ("send 00DA00500141", 0xDA, "6982", "failed",
+     "send was answered 6982 security status not satisfied"),
+    ("put 50 41", 0xDA, "6982", "failed",
+     "put 50 was answered 6982 security status not satisfied"),
+    # no answer of a card
+    ("put 50 41", 0xDA, "", "unsure", "no status"),
+    ("put 50 41", 0xDA, "90", "unsure", "no status"),
+    ("put 50 41", 0xDA, "41419000", "unsure", "data not asked for"),
+    # a put that is not read back
+    ("put 5F20 @{name}", 0xCA, "9000", "failed", NOTHING),
+    ("put 5F20 @{name}", 0xCA, "500441414141" + "9000", "failed", NOTHING),
+    ("put 5F20 @{name}", 0xCA, "5F20014A9000", "failed", OTHER),
+    ("put 5F20 @{name}", 0xCA, "6A88", "failed", "put 5F20 was answered 9000, and its reading was "
+     "answered 6A88 referenced data not found"),
+    ("put {code} @{name}", 0xCA, "9000", "failed", NOTHING.replace("5F20", "{code}")),
+]  # fmt: skip
 
 
-@pytest.mark.parametrize(("tag", "outcome"), [("5F20", "done"), ("50", "failed")])
-def test_a_get_returns_its_object(tag, outcome):
-    script = f"select A0000000031010\nput 5F20 @{{name}}\nget {tag}\n"
-    card = Card({AID: {0x50: b"VISA"}})
-
-    def reader(tpdu):
-        """Returns the value of 50 alone, without its tag and length."""
-        answer = card.tpdu(tpdu)
-        return answer[2:] if answer.startswith(b"\x50\x04") else answer
-
-    why = "" if outcome == "done" else f"get {tag} was answered 9000, but not with this object"
-    assert outcome_of(script, reader) == (outcome, why)
-
-
-@pytest.mark.parametrize(
-    ("operation", "shown"), [("send 00DA00500141", "send"), ("put 50 41", "put 50")]
-)
-def test_what_may_write_keeps_its_row(operation, shown):
-    """A card that refused a put or a send may hold a part of the row."""
-    card = Card({AID: {0x50: b"VISA"}}, locked=[(AID, 0x50)])
-    script = f"select A0000000031010\n{operation}\n"
-    why = f"{shown} was answered 6982 security status not satisfied"
-    assert outcome_of(script, card.tpdu) == ("failed", why)
-
-
-@pytest.mark.parametrize("answer", [b"", b"\x90", b"\x41\x41\x90\x00"])
-def test_an_answer_that_does_not_fit_leaves_its_row_unsure(answer):
-    """The card may have carried out the put."""
-    card = Card({AID: {}})
+@pytest.mark.parametrize(("script", "ins", "answer", "word", "why"), OUTCOMES)
+def test_how_a_row_ends(script, ins, answer, word, why):
+    card, row = Card({AID: {0x50: b"VISA"}}), {"name": "JANE", "code": "5F20"}
 
     def reader(tpdu):
-        """Hands on a select. A put gets this answer, which no card gives."""
-        return answer if tpdu[1] == 0xDA else card.tpdu(tpdu)
+        return bytes.fromhex(answer) if tpdu[1] == ins else card.tpdu(tpdu)
 
-    script = "select A0000000031010\nput 50 41\n"
-    assert outcome_of(script, reader)[0] == "unsure"
-
-
-def test_the_longest_value():
-    card = Card({AID: {}})
-    script = "select A0000000031010\nput 50 41*8192\n"
-    assert outcome_of(script, card.tpdu) == ("done", "")
-    assert [len(it.value) for it in card.entries(AID)] == [8192]
+    made = Script("script", f"select {AID.hex()}\n{script}\n", [*row])
+    assert carry_out(steps_of(made, row), Recorder(reader)) == (word, why)
 
 
 def test_a_row_in_progress_is_not_to_be_decided(tmp_path):
@@ -212,6 +199,10 @@ def test_a_journal_that_is_replaced_or_removed_takes_no_row(tmp_path):
         with pytest.raises(ValueError, match="journal was replaced: look what the last cards hold"):
             call()
     assert room.events() == []
+    (journal := room.opened(2)).note(1, "begin", "00 Slot0")
+    file.write_bytes(file.read_bytes()[:-9])
+    with pytest.raises(ValueError, match="journal was replaced"):
+        journal.note(1, "done", "")
     file.unlink()
     with pytest.raises(FileNotFoundError):
         journal.note(1, "begin", "00 Slot0")
@@ -221,7 +212,7 @@ def test_a_row_that_begins_after_a_second_interrupt(tmp_path, monkeypatch):
     """A reader that still connects keeps its row, and begins no other."""
     room = Room(tmp_path, 2)
     room.create()
-    room.run("--check")  # so that there is a module `smartcard`
+    at = room.desk(2)
     from galliumtoad.batch import desk
 
     def connected(name):
@@ -233,8 +224,6 @@ def test_a_row_that_begins_after_a_second_interrupt(tmp_path, monkeypatch):
     own, is_over = desk.connected, threading.Event()
     monkeypatch.setattr(desk, "connected", connected)
     monkeypatch.setenv("STANDIN", str(tmp_path))
-    given = argparse.Namespace(go=True, stop_after=1, reader=[], report=None)
-    at = desk.Desk([[], []], room.opened(2), given)
     at.run()
     [reader] = [it for it in threading.enumerate() if isinstance(it, desk.Reader)]
     is_over.set()
@@ -242,9 +231,31 @@ def test_a_row_that_begins_after_a_second_interrupt(tmp_path, monkeypatch):
     assert at.faults == [] and room.events() == ["begin 1", "done 1"]
 
 
+def test_an_interrupt_takes_no_lock(tmp_path, monkeypatch):
+    """It may come within another one, or within a call that has the lock: then it would hang."""
+    room = Room(tmp_path, 1)
+    room.create()
+    at = room.desk(1)
+    from galliumtoad.batch import desk
+
+    monkeypatch.setattr(at.stopped, "set", lambda: pytest.fail("it takes a lock"))
+    reader = desk.Reader(at, "")
+    assert reader._may_continue()
+    at._interrupt()
+    assert not reader._may_continue()
+
+
+def test_each_context_of_pcsc_is_released(tmp_path, monkeypatch, connection):
+    from smartcard import scard
+
+    room, left = Room(tmp_path, 1), []
+    noted(monkeypatch, scard, "SCardEstablishContext", left.append)
+    noted(monkeypatch, scard, "SCardReleaseContext", lambda _: left.pop())
+    assert room.run()[0] == 0 and left == []
+
+
 def test_two_runs_at_one_reader(tmp_path):
-    room = Room(tmp_path, 3)
-    room.environment["SLOW"] = "0.1"
+    room = Room(tmp_path, 3, SLOW="0.1")
     first = room.start()
     room.begun()
     out, error = room.run()[1:]
@@ -254,23 +265,13 @@ def test_two_runs_at_one_reader(tmp_path):
 
 
 def test_readers_with_long_names(tmp_path):
-    room = Room(tmp_path, 6, readers=0)
     # slow enough for both readers to be served at once
-    room.environment["SLOW"] = "0.1"
+    room = Room(tmp_path, 6, readers=0, SLOW="0.1")
     for end in (" 00 00", " 01 00"):
         room.add_reader(f"{'R' * 100}{os.getpid()}{end}")
     status, out, error = room.run("--reader= 00 00", "--reader= 01 00")
     assert (status, error) == (0, "") and out.endswith("6 of 6 rows done, 0 to decide\n")
     assert "set aside" not in out
-
-
-def test_each_card_that_does_not_answer_is_named(tmp_path):
-    room = Room(tmp_path, 2)
-    room.environment["MUTE"] = "0 2 3"
-    name, mute = room.names[0], "the card does not answer to reset"
-    said = [mute, "row 1 done", mute, mute, "row 2 done"]
-    assert told(room.run()[1]) == [
-        *(f"{name}: {it}" for it in said), "2 of 2 rows done, 0 to decide"]
 
 
 def test_a_journal_that_was_cut(tmp_path):
@@ -323,9 +324,7 @@ def test_a_full_disk(tmp_path):
         (tmp_path / "journal").unlink(missing_ok=True)
         for card in tmp_path.glob("cards/*"):
             card.unlink()
-        program = room.words()
-        program[1:3] = ["-c", FULL.format(size)]
-        out, error = ended(run := room.start_program(program))
+        out, error = ended(run := room.start_full(size))
         if run.returncode == 0:
             continue
         stopped += 1
@@ -337,18 +336,8 @@ def test_a_full_disk(tmp_path):
     assert stopped > 3
 
 
-def test_a_card_of_another_profile_takes_no_row(tmp_path):
-    room = Room(tmp_path, 1)
-    room.put_in(room.names[0], 5)
-    status, out, _ = room.run()
-    assert status == 0 and told(out) == [
-        f"{room.names[0]}: row 1 unused: select was answered 6A82 file or application not found",
-        f"{room.names[0]}: row 1 done", "1 of 1 rows done, 0 to decide"]
-
-
 def test_a_card_without_an_identifier_takes_no_row(tmp_path):
-    room = Room(tmp_path, 1)
-    room.put_in(room.names[0], 17)
+    room = Room(tmp_path, 1, card=17)
     why = "its reading was answered 6A88 referenced data not found"
     assert told(room.run("--id=9F7F")[1])[:2] == [
         f"{room.names[0]}: row 1 unused: the card has no identifier 9F7F: {why}",
@@ -374,33 +363,13 @@ def test_the_card_of_a_crashed_run_waits(tmp_path):
     assert [*room.held()] == [f"{name}-1"]
 
 
-def test_a_card_that_stays_in_takes_one_row(tmp_path):
-    room = Room(tmp_path, 3)
-    room.environment["STAYS"] = "1"
+@pytest.mark.parametrize(("more", "cards"), [({}, (0, 1, 2)), ({"SWAPS": "1"}, (1, 3))])
+def test_a_card_that_stays_in_takes_one_row(tmp_path, more, cards):
+    """Also if it is changed just before the connection."""
+    room = Room(tmp_path, len(cards), STAYS="1", **more)
     assert room.run()[0] == 0
-    cards = sorted(it.name for it in tmp_path.glob("cards/*"))
-    assert cards == [f"{room.names[0]}-{at}" for at in range(3)]
-    assert [room.cards_of(row)[0] for row in (1, 2, 3)] == [1, 1, 1]
-
-
-def test_a_card_that_was_changed_before_it_is_connected(tmp_path):
-    room = Room(tmp_path, 2)
-    room.environment.update(STAYS="1", SWAPS="1")
-    assert room.run()[0] == 0
-    assert [room.cards_of(row)[0] for row in (1, 2)] == [1, 1]
-
-
-def test_a_card_that_stores_another_byte_has_failed(tmp_path):
-    room = Room(tmp_path, 1)
-    room.put_in(room.names[0], 11)
-    status, out, _ = room.run()
-    why = "put 50 was answered 9000, and read back another value"
-    assert status == 1 and told(out)[0] == f"{room.names[0]}: row 1 failed: {why}"
-    assert told(out)[1].startswith("row 1 failed: a card without an id, ")
-    assert told(out)[1].endswith(f": {why}") and told(out)[2:] == ["0 of 1 rows done, 1 to decide"]
-    assert room.run("--again=1")[1] == "0 of 1 rows done, 0 to decide\n"
-    last = [f"{room.names[0]}: row 1 done", "1 of 1 rows done, 0 to decide"]
-    assert told(room.run()[1])[-2:] == last
+    assert sorted(room.held()) == [f"{room.names[0]}-{it}" for it in cards]
+    assert [room.cards_of(row)[0] for row in range(1, len(cards) + 1)] == [1] * len(cards)
 
 
 @pytest.mark.parametrize(("line", "sent", "reason"), operations.rows())
@@ -453,8 +422,7 @@ def test_a_table_may_be_a_pipe(tmp_path):
 
 
 def test_only_its_owner_reads_a_journal_and_dialogues(tmp_path):
-    room = Room(tmp_path, 1)
-    room.put_in(room.names[0], 7)
+    room = Room(tmp_path, 1, card=7)
     room.run("--stop-after=1")
     assert (tmp_path / "journal").stat().st_mode & 0o777 == 0o600
     assert (tmp_path / "journal.cards").stat().st_mode & 0o777 == 0o700
@@ -565,11 +533,10 @@ def test_a_file_that_the_script_names_is_read_once(tmp_path):
 
 def test_cards_get_what_was_checked(tmp_path):
     """A file of a value is read once, so that it may change or go away during a run."""
-    room = Room(tmp_path, 2)
+    room = Room(tmp_path, 2, SLOW="0.1")
     room.write("script", "select A0000000031010\nput 5F20 @{name}.jpg\n")
     for row in (1, 2):
         (tmp_path / f"PERSON {row}.jpg").write_bytes(bytes([row]))
-    room.environment["SLOW"] = "0.1"
     run = room.start()
     room.begun()
     (tmp_path / "PERSON 1.jpg").unlink()
@@ -580,8 +547,7 @@ def test_cards_get_what_was_checked(tmp_path):
 
 @pytest.mark.parametrize("handler", [signal.default_int_handler, signal.SIG_IGN])
 def test_an_interrupted_run_ends_the_card_in_progress(tmp_path, handler):
-    room = Room(tmp_path, 3)
-    room.environment["SLOW"] = "0.1"
+    room = Room(tmp_path, 3, SLOW="0.1")
     run = interruptible(room, handler=handler)
     room.begun()
     os.kill(run.pid, signal.SIGINT)
@@ -595,12 +561,11 @@ def test_an_interrupted_run_ends_the_card_in_progress(tmp_path, handler):
 
 
 def test_a_run_that_is_interrupted_twice_lists_its_row(tmp_path):
-    room = Room(tmp_path, 3)
-    room.environment["SLOW"] = "1.5"
+    room = Room(tmp_path, 3, SLOW="1.5")
     run = interruptible(room)
     room.begun()
     os.kill(run.pid, signal.SIGINT)
-    assert "stops after" in [run.stdout.readline() for _ in range(3)][2]
+    lines_up_to(run, "stops after")
     os.kill(run.pid, signal.SIGINT)
     out, error = ended(run)
     assert (run.returncode, error) == (1, "")
@@ -622,17 +587,13 @@ def test_two_runs_at_once(tmp_path):
     runs = [room.start(it) for it in room.readers]
     for run in runs:
         assert ended(run)[1] == ""
-    while room.run("--status")[0] == 1:
-        room.decide()
-        room.run(go=False)
-    assert [room.cards_of(row)[0] for row in range(1, 61)] == [1] * 60
+    room.finish(60)
 
 
 def test_killed_at_random(tmp_path):
-    room, at_random, kills = Room(tmp_path, CARDS, readers=4), random.Random(7), 0
     # slow enough to leave rows for each kill
-    room.environment["SLOW"] = "0.015"
-    out = ""
+    room = Room(tmp_path, CARDS, readers=4, SLOW="0.015")
+    at_random, kills, out = random.Random(7), 0, ""
     while not out.endswith(f"{CARDS} of {CARDS} rows done, 0 to decide\n"):
         # the card that lies in a reader may have a row
         run = room.start(go=False)

@@ -4,22 +4,17 @@ again, cards that lie in a reader, journals with a wrong name, and corrected cel
 import errno
 import os
 import re
+import shutil
 
 import pytest
 from galliumtoad.batch.journal import Heading
-from room import Room, listed, refused
+from room import SCRIPT, Room, listed, refused
 
 NOT_TOLD = "without --id it can't tell cards apart: a card inserted twice gets two rows\n"
 
 
-def same_card(room, times, number=0):
-    """Has the reader show one card several times, and then other cards."""
-    room.environment["AGAIN"] = f"{number}*{times}"
-
-
 def test_a_card_that_is_inserted_three_times_has_one_row(tmp_path):
-    room = Room(tmp_path, 3)
-    same_card(room, 3)
+    room = Room(tmp_path, 3, AGAIN="0*3")
     status, out, _ = room.run("--id=9F7F")
     said = rf"row 2 unused, \d+\.\d s: card {room.id_of(0)} has row 1, which is done\n"
     assert status == 0 and out.count("has row 1, which is done") == 2, out
@@ -29,9 +24,8 @@ def test_a_card_that_is_inserted_three_times_has_one_row(tmp_path):
 
 
 def test_a_script_that_only_reads_knows_its_cards_too(tmp_path):
-    room = Room(tmp_path, 3)
+    room = Room(tmp_path, 3, AGAIN="0*3")
     room.write("script", "select A0000000031010\nget 9F7F\n")
-    same_card(room, 3)
     status, out, _ = room.run("--id=9F7F")
     assert status == 0 and out.count(f"card {room.id_of(0)} has row 1, which is done") == 2, out
     for number in range(3):
@@ -40,9 +34,7 @@ def test_a_script_that_only_reads_knows_its_cards_too(tmp_path):
 
 @pytest.mark.parametrize(("number", "state"), [(11, "failed"), (7, "unsure")])
 def test_a_card_whose_row_is_not_done_is_refused_too(tmp_path, number, state):
-    room = Room(tmp_path, 2)
-    room.put_in(room.names[0], number)
-    same_card(room, 2, number)
+    room = Room(tmp_path, 2, card=number, AGAIN=f"{number}*2")
     out = room.run("--id=9F7F", "--stop-after=9")[1]
     assert f"card {room.id_of(number)} has row 1, which is {state}" in out
     assert listed(out) == {1: state}
@@ -86,32 +78,38 @@ def test_without_an_identifier_the_program_says_so_at_its_start(tmp_path):
 
 def test_a_journal_keeps_its_identifier(tmp_path):
     """A run that lacks --id compares cards still."""
-    room = Room(tmp_path, 2)
-    room.put_in(room.names[0], 7)
+    room = Room(tmp_path, 2, card=7)
     assert room.run("--id=9F7F", "--stop-after=1")[0] == 1
     room.put_in(room.names[0], 7)
     assert f"card {room.id_of(7)} has row 1, which is unsure" in room.run()[1]
     assert room.run("--id=51") == refused("journal was created with --id 9F7F")
 
 
-def test_a_mistyped_journal_does_not_begin_again(tmp_path):
-    room = Room(tmp_path, 2)
-    assert room.run()[0] == 0
-    for words in (("--go",), ("--status",), ("--check",), ("--done=1",), ("--look=1",)):
-        wanted = refused("there is no journal jurnal: --new creates it")
-        assert room.run("--journal=jurnal", *words, *room.readers) == wanted
-    assert not (tmp_path / "jurnal").exists() and len(room.held()) == 2
+# Words of a run after a first one, and why they are refused.
+ANOTHER = "rows.csv has another journal, {}/journal"
+REFUSED = [
+    *(("--journal=jurnal", it, "there is no journal jurnal: --new creates it")
+      for it in ("--go", "--status", "--check", "--done=1", "--look=1")),
+    ("--journal=second", "--new", ANOTHER),
+    ("--journal=there/second", "--new", ANOTHER),
+    ("--journal=copy", "--go", ANOTHER),
+    ("--rows=other.csv", "--go", "journal is the journal of the table {}/rows.csv"),
+    ("--journal=journal", "--done=1", "row 1 is done"),
+]  # fmt: skip
 
 
-def test_a_second_journal_in_the_folder_is_refused(tmp_path):
-    room = Room(tmp_path, 2)
+@pytest.mark.parametrize(("one", "two", "line"), REFUSED)
+def test_what_does_not_fit_an_earlier_run_is_refused(tmp_path, one, two, line):
+    """It writes no file, and no card."""
+    room = Room(tmp_path, 1)
     assert room.run()[0] == 0
     (tmp_path / "there").mkdir()
-    for other in ("second", "there/second"):
-        wanted = refused(f"rows.csv has another journal, {tmp_path}/journal")
-        assert room.run(f"--journal={other}", "--new", *room.readers) == wanted
-        assert not (tmp_path / other).exists()
-    assert len(room.held()) == 2
+    for name, copy in (("journal", "copy"), ("rows.csv", "other.csv")):
+        if copy in one:
+            shutil.copy(tmp_path / name, tmp_path / copy)
+    before = {it: it.is_file() and it.read_bytes() for it in tmp_path.rglob("*")}
+    assert room.run(one, two, *room.readers) == refused(line.format(tmp_path))
+    assert {it: it.is_file() and it.read_bytes() for it in tmp_path.rglob("*")} == before
 
 
 def test_a_table_names_a_journal_elsewhere(tmp_path):
@@ -171,30 +169,6 @@ def test_parts_meet_where_they_share_a_row():
         assert [heading.meets(*it) for it in parts] == [bool(rows[one] & rows[it]) for it in parts]
 
 
-def test_a_row_that_is_done_is_not_done_again(tmp_path):
-    room = Room(tmp_path, 1)
-    assert room.run()[0] == 0
-    before = room.journal()
-    assert room.run("--done=1") == refused("row 1 is done")
-    assert room.journal() == before
-
-
-def test_a_copy_of_a_journal_is_refused(tmp_path):
-    room = Room(tmp_path, 1)
-    assert room.run()[0] == 0
-    (tmp_path / "copy").write_bytes((tmp_path / "journal").read_bytes())
-    wanted = refused(f"rows.csv has another journal, {tmp_path}/journal")
-    assert room.run("--journal=copy", *room.readers) == wanted
-
-
-def test_a_journal_of_another_table_is_refused(tmp_path):
-    room = Room(tmp_path, 1)
-    assert room.run()[0] == 0
-    room.write("other.csv", (tmp_path / "rows.csv").read_text())
-    wanted = refused(f"journal is the journal of the table {tmp_path}/rows.csv")
-    assert room.run("--rows=other.csv", *room.readers) == wanted
-
-
 def test_a_folder_that_moves_keeps_its_journal(tmp_path):
     (tmp_path / "before").mkdir()
     room = Room(tmp_path / "before", 1)
@@ -204,18 +178,23 @@ def test_a_folder_that_moves_keeps_its_journal(tmp_path):
     assert room.run("--status")[:2] == (0, "1 of 1 rows done, 0 to decide\n")
 
 
-def test_a_cell_of_a_row_that_has_not_begun_may_change(tmp_path):
-    room, table = Room(tmp_path, 3), tmp_path / "rows.csv"
-    room.put_in(room.names[0], 7)
+def test_what_has_not_begun_may_change(tmp_path):
+    """A cell of another row, further rows, and a comment of the script."""
+    room = Room(tmp_path, 3, card=7)
     room.run("--stop-after=1")
-    text = table.read_text().replace("PERSON 3", "PERSON X") + "PERSON 4,00000004\n"
-    table.write_text(text)
+    table, script = (tmp_path / "rows.csv").read_text(), "# a word more\n" + SCRIPT
+    table = table.replace("PERSON 3", "PERSON X") + "PERSON 4,00000004\n"
+    room.write("rows.csv", table)
+    room.write("script", script)
     assert room.run("--done=1")[1] == "1 of 4 rows done, 0 to decide\n"
     assert room.run()[0] == 0
     assert b"PERSON X".hex() in {it["24352"] for it in room.held().values()}
-    for old, new in (("PERSON 1", "PERSON Y"), ("00000001", "00000011")):
-        table.write_text(text.replace(old, new))
-        wanted = refused("journal: row 1 has begun with other cells or another script")
+    wanted = refused("journal: row 1 has begun with other cells or another script")
+    for cells, lines in ((table.replace("PERSON 1", "PERSON Y"), script),
+                         (table.replace("00000001", "00000011"), script),
+                         (table, script + "get 50\n")):
+        room.write("rows.csv", cells)
+        room.write("script", lines)
         assert room.run("--status") == wanted
 
 
@@ -224,17 +203,6 @@ def test_a_row_to_write_again_may_change(tmp_path):
     assert room.run("--id=9F7F")[0] == 0 and room.run("--again=1")[0] == 1
     room.write("rows.csv", "name,code\nPERSON 9,00000009\n")
     assert room.run()[0] == 0 and room.cards_of(9) == (1, 1)
-
-
-def test_a_script_of_rows_that_have_begun_stays(tmp_path):
-    room = Room(tmp_path, 2)
-    room.put_in(room.names[0], 7)
-    room.run("--stop-after=1")
-    script = (tmp_path / "script").read_text()
-    room.write("script", "# a word more\n" + script)
-    assert room.run("--status")[0] == 1
-    room.write("script", script + "get 50\n")
-    assert "row 1 has begun with other cells" in room.run("--status")[2]
 
 
 def test_rows_may_not_go_away(tmp_path):

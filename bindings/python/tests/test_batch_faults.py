@@ -5,13 +5,12 @@ import os
 import random
 import signal
 import subprocess
-import threading
 import time
 
 import pytest
 from galliumtoad import Card, Select, Terminal
 from galliumtoad.batch.script import Recorder, Script, carry_out, compared
-from room import AID, HERE, SCRIPT, Room, ended, refused, steps_of, told
+from room import AID, HERE, SCRIPT, Room, ended, lines_up_to, refused, steps_of, told
 
 ROW = {"name": "PERSON 1", "code": "00000001"}
 VALUES = {0x5F20: b"PERSON 1", 0x9F36: bytes.fromhex("00000001"), 0x50: b"A" * 300}
@@ -35,18 +34,11 @@ class Pulled:
         return answer
 
 
-def commands_of(script):
-    """The number of commands that a whole row takes."""
-    reader = Pulled(Card({AID: {}}), 0, False)
-    assert carry_out(steps_of(script, ROW), Recorder(reader)) == ("done", "")
-    return reader.sent
-
-
 def test_a_card_is_pulled_at_each_command():
     script = Script("script", SCRIPT, [*ROW])
-    made, count = steps_of(script, ROW), commands_of(script)
-    words = []
-    for at in range(1, count + 1):
+    made, whole, words = steps_of(script, ROW), Pulled(Card({AID: {}}), 0, False), []
+    assert carry_out(made, Recorder(whole)) == ("done", "")
+    for at in range(1, whole.sent + 1):
         for is_carried_out in (False, True):
             card = Card({AID: {}})
             outcome = carry_out(made, Recorder(Pulled(card, at, is_carried_out)))
@@ -64,22 +56,14 @@ def test_a_card_is_pulled_at_each_command():
 
 def test_a_run_whose_cards_are_pulled(tmp_path):
     """Each card is pulled one command later than the one before; --look finds what it holds."""
-    room = Room(tmp_path, 18)
-    room.environment["PULLED"] = "yes"
-    for _ in range(30):
-        out = room.run("--id=9F7F", go=False)[1]
-        if "18 of 18 rows done" in out:
-            break
-        room.decide()
-    assert out.endswith("18 of 18 rows done, 0 to decide\n")
-    assert [room.cards_of(row)[0] for row in range(1, 19)] == [1] * 18
+    room = Room(tmp_path, 18, PULLED="yes")
+    room.finish(18, "--id=9F7F")
     assert any("unsure" in it for it in room.events())
 
 
 def test_a_reader_that_fails_five_cards_is_set_aside(tmp_path):
-    room = Room(tmp_path, 4, readers=2)
+    room = Room(tmp_path, 4, readers=2, SLOW="0.03")
     room.environment["MUTE"] = " ".join(f"{room.names[0]}-{at}" for at in range(20))
-    room.environment["SLOW"] = "0.03"
     status, out, error = room.run()
     mute = f"{room.names[0]}: the card does not answer to reset"
     aside = f"{room.names[0]}: set aside: 5 cards in a row failed"
@@ -88,8 +72,7 @@ def test_a_reader_that_fails_five_cards_is_set_aside(tmp_path):
 
 
 def test_a_card_that_is_done_begins_the_count_again(tmp_path):
-    room = Room(tmp_path, 2)
-    room.environment["MUTE"] = "0 1 2 3 6 7 8"
+    room = Room(tmp_path, 2, MUTE="0 1 2 3 6 7 8")
     status, out, _ = room.run()
     name = room.names[0]
     mute = f"{name}: the card does not answer to reset"
@@ -101,8 +84,7 @@ def test_a_card_that_is_done_begins_the_count_again(tmp_path):
 
 @pytest.mark.parametrize(("variable", "value"), [("MUTE", "0 1 2 3 4 5 6"), ("WORN", "yes")])
 def test_a_run_ends_when_all_readers_are_set_aside(tmp_path, variable, value):
-    room = Room(tmp_path, 9)
-    room.environment[variable] = value
+    room = Room(tmp_path, 9, **{variable: value})
     status, out, _ = room.run()
     aside = f"{room.names[0]}: set aside: 5 cards in a row failed"
     assert status == 1 and told(out)[5] == aside
@@ -111,27 +93,20 @@ def test_a_run_ends_when_all_readers_are_set_aside(tmp_path, variable, value):
 
 
 def test_a_run_stops_after_failures(tmp_path):
-    room = Room(tmp_path, 9)
-    room.environment["WORN"] = "yes"
+    room = Room(tmp_path, 9, WORN="yes")
     status, out, _ = room.run("--stop-after=3")
     assert status == 1 and told(out)[3] == "stopped: 3 rows failed"
     assert told(out)[-1] == "0 of 9 rows done, 3 to decide" and "begin 4" not in room.events()
 
 
 def test_a_reader_that_comes_and_goes(tmp_path):
-    room = Room(tmp_path, 6, readers=2)
-    room.environment["SLOW"] = "0.05"
+    room = Room(tmp_path, 6, readers=2, SLOW="0.05")
     run = room.start()
     room.begun("done")
     for name in room.names:
         (tmp_path / name / "away").touch()
-    killer = threading.Timer(60, run.kill)
-    killer.start()
-    gone = {f"{it}: the reader is gone: unplugged" for it in room.names}
-    while gone and (line := run.stdout.readline()):
-        gone.discard(line.rstrip())
-    killer.cancel()
-    assert not gone and run.poll() is None
+    lines_up_to(run, *(f"{it}: the reader is gone: unplugged\n" for it in room.names))
+    assert run.poll() is None
     # the second reader does not come back
     (tmp_path / room.names[0] / "away").unlink()
     out, error = ended(run)
@@ -139,23 +114,15 @@ def test_a_reader_that_comes_and_goes(tmp_path):
     assert "the reader is gone" not in out
     assert out.endswith(" to decide\n") and len(set(room.events()) & {"begin 5", "begin 6"}) == 2
     (tmp_path / room.names[1] / "away").unlink()
-    while room.run("--status")[0] == 1:
-        room.decide()
-        room.run(go=False)
-    assert [room.cards_of(row)[0] for row in range(1, 7)] == [1] * 6
+    room.finish(6)
 
 
 def test_a_pcscd_that_goes_away_is_waited_for(tmp_path):
-    room = Room(tmp_path, 3)
-    room.environment["SLOW"] = "0.05"
+    room = Room(tmp_path, 3, SLOW="0.05")
     run = room.start()
     room.begun("done")
     (tmp_path / "gone").touch()
-    killer = threading.Timer(60, run.kill)
-    killer.start()
-    while (line := run.stdout.readline()) and "the reader is gone: error 9" not in line:
-        pass
-    killer.cancel()
+    lines_up_to(run, "the reader is gone: error 9")
     (tmp_path / "gone").unlink()
     out, error = ended(run)
     assert (run.returncode, error) == (0, "") and out.endswith("3 of 3 rows done, 0 to decide\n")
@@ -210,7 +177,7 @@ def lose_power(room, disk):
 def test_no_row_is_on_two_cards_after_a_power_loss(tmp_path):
     (tmp_path / "room").mkdir()
     (tmp_path / "disk").mkdir()
-    room, at_random, out = Room(tmp_path / "room", 40, readers=2), random.Random(3), ""
+    room, at_random = Room(tmp_path / "room", 40, readers=2), random.Random(3)
     library = tmp_path / "on_disk.so"
     warnings = ["-Wall", "-Wextra", "-Werror", "-shared", "-fPIC", "-o", library]
     subprocess.run(["cc", *warnings, HERE / "power/on_disk.c"], check=True)
@@ -229,7 +196,4 @@ def test_no_row_is_on_two_cards_after_a_power_loss(tmp_path):
         ended(run)
         lose_power(room, tmp_path / "disk")
         room.decide()
-    while not out.endswith("40 of 40 rows done, 0 to decide\n"):
-        out = room.run("--id=9F7F", go=False)[1]
-        room.decide()
-    assert [room.cards_of(row)[0] for row in range(1, 41)] == [1] * 40
+    room.finish(40)

@@ -34,6 +34,7 @@ SCRIPTS = [
     ("put 5F20 @{age}\n", "1: no column 'age': the table has 'name', 'code'"),
     ("put 5F20 @{Name}\n", "1: no column 'Name': the table has 'name', 'code'"),
     ("take 5F20\n", "1: `take` is no operation: it is one of select, send, get, put"),
+    ("\x1b[2J 5F20\n", "1: `\\x1b[2J` is no operation: it is one of select, send, get, put"),
     ("get 5F20 41\n", "1: `get` has 2 words, not 1"),
     ("\nput 5F20\n", "2: `put` has 1 word, not 2"),
     ("select A0\n", "1: `select`: identifier: 1 byte, but an identifier has 5 to 16"),
@@ -136,16 +137,6 @@ def room_of(path, script, rows):
     return room
 
 
-def words_of(room, words):
-    names = words.split()
-    if "made" in words:
-        room.create()
-        (room.path / "journal").rename(room.path / "made")
-    given = "--reader" in words or words == "--id=9F7F"
-    is_decision = "--done" in words or "--again" in words
-    return names if given or is_decision else [*room.readers, *names]
-
-
 def test_there_are_sixty_of_them():
     assert len({it[0] for it in MISTAKES}) == len(MISTAKES) >= 60
 
@@ -154,7 +145,10 @@ def test_there_are_sixty_of_them():
 def test_a_mistake_is_named_before_any_card(tmp_path, mistake):
     _, script, rows, words, line = mistake
     room = room_of(tmp_path, script, rows)
-    program = room.words(*words_of(room, words))
+    if "made" in words:
+        room.create()
+        (tmp_path / "journal").rename(tmp_path / "made")
+    program = room.words(*words.split())
     if words == "--id=9F7F":
         program = [it for it in program if not it.startswith("--reader")]
     line = line.replace("; S", f"; there are: '{room.names[0]}', '{room.names[1]}'")
@@ -223,25 +217,10 @@ def test_duplicates_and_empty_texts_may_be_allowed(tmp_path, rows):
     assert room.run("--check", "--new", "--allow-duplicates")[0] == 0
 
 
-@pytest.mark.parametrize("between", [",", ";", "\t"])
-def test_the_first_line_tells_what_is_between_cells(tmp_path, between):
-    room = Room(tmp_path, 2)
-    text = (tmp_path / "rows.csv").read_text().replace(",", between)
-    room.write("rows.csv", text.replace("PERSON 2", '"PERSON 2"'))
-    assert room.run()[0] == 0
-    assert [room.cards_of(row) for row in (1, 2)] == [(1, 1)] * 2
-
-
 def test_no_reader_at_all(tmp_path):
     room = Room(tmp_path, 1, readers=0)
     assert room.run("--reader=X") == refused("'X' names 0 readers; there is no reader")
     assert room.run("--id=50") == refused("name one with --reader; there is no reader")
-
-
-def test_a_mistake_controls_no_terminal(tmp_path):
-    room = Room(tmp_path, 1)
-    room.write("script", "\x1b[2Jput 50 41\n")
-    assert room.run()[2].startswith("galliumtoad.batch: script:1: `\\x1b[2Jput` is no operation")
 
 
 def test_without_pyscard_one_line_names_the_package(tmp_path):

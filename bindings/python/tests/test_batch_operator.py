@@ -1,7 +1,6 @@
 """Tests what an operator sees of a batch: lines, a bar, dialogues without values, reports, and what
 a card in doubt holds."""
 
-import argparse
 import contextlib
 import csv
 import io
@@ -14,15 +13,15 @@ import signal
 import subprocess
 import time
 from datetime import datetime, timedelta, timezone
-from html.parser import HTMLParser
+from xml.etree import ElementTree
 
 import pytest
 from galliumtoad import Card
 from galliumtoad.batch import report
 from galliumtoad.batch.journal import Entry
 from galliumtoad.batch.script import Recorder, Script, carry_out, compared, identity
-from room import (AID, SCRIPT, Room, ended, folder_of_programs, interruptible, listed, refused,
-                  steps_of, told)
+from room import (AID, SCRIPT, Room, ended, folder_of_programs, interruptible, lines_up_to,
+                  listed, refused, steps_of, told)
 
 TIME = r"\d{4}-\d\d-\d\dT\d\d:\d\d:\d\d\.\d{3}[+-]\d\d:\d\d"
 
@@ -38,8 +37,7 @@ def test_lines_of_a_run(tmp_path):
 
 
 def test_a_run_tells_where_it_continues(tmp_path):
-    room = Room(tmp_path, 4)
-    room.put_in(room.names[0], 7)
+    room = Room(tmp_path, 4, card=7)
     room.run("--stop-after=1", "--id=9F7F")
     room.put_in(room.names[0], 11)
     room.run("--stop-after=1")
@@ -52,9 +50,9 @@ def test_a_run_tells_where_it_continues(tmp_path):
 @pytest.mark.parametrize("encoding", ["utf-8", "ascii"])
 def test_a_reader_with_a_name_in_another_script(tmp_path, encoding):
     """Also if the output lacks its letters. The journal has them, and stays one."""
-    room = Room(tmp_path, 2, readers=0)
+    room = Room(tmp_path, 2, readers=0, PYTHONIOENCODING=encoding)
     room.add_reader("L\u00e4ser")
-    room.is_apart, room.environment["PYTHONIOENCODING"] = True, encoding
+    room.is_apart = True
     shown = "L\u00e4ser" if encoding == "utf-8" else "L\\xe4ser"
     status, out, error = room.run("--reader=ser", "--stop-after=1")
     assert (status, error) == (0, "") and f"{shown}: row 2 done" in out
@@ -66,21 +64,18 @@ def test_a_reader_with_a_name_in_another_script(tmp_path, encoding):
 
 def test_a_column_s_name_in_another_encoding(tmp_path):
     """A reason may have it, and so does the journal."""
-    room = Room(tmp_path, 1)
+    room = Room(tmp_path, 1, WORN="yes")
     (tmp_path / "script").write_bytes(b"select A0000000031010\nput {\xe9} @{name}\n")
     (tmp_path / "rows.csv").write_bytes(b"name,\xe9\nPERSON 1,50\n")
-    room.environment["WORN"] = "yes"
     assert "put {\\udce9} was answered 9000, and read back" in room.run("--stop-after=1")[1]
     assert room.to_decide() == {1: "failed"}
 
 
 def test_a_card_is_asked_for_once(tmp_path):
     """Also after one that did not answer to reset."""
-    room = Room(tmp_path, 1)
-    room.environment.update(MUTE="0", LIES="yes")
+    room = Room(tmp_path, 1, MUTE="0", LIES="yes")
     run, name = room.start(), room.names[0]
-    while (line := run.stdout.readline()) and "does not answer to reset" not in line:
-        assert "insert a card" not in line
+    assert "insert a card" not in "".join(lines_up_to(run, "does not answer to reset"))
     (tmp_path / name / "out").touch()
     time.sleep(2)
     room.put_in(name, 1)
@@ -92,24 +87,17 @@ def test_a_card_is_asked_for_once(tmp_path):
 
 def test_a_reader_without_a_row_asks_for_no_card(tmp_path):
     """Another one waits with the last row for its card."""
-    room, text = Room(tmp_path, 1, readers=2), ""
-    room.environment["LIES"] = "yes"
+    room = Room(tmp_path, 1, readers=2, LIES="yes")
     for name in room.names:
         (tmp_path / name / "out").touch()
-    run = room.start()
-    while "insert a card for row 1\n" not in text:
-        line = run.stdout.readline()
-        assert line
-        text += line
+    lines = lines_up_to(run := room.start(), "insert a card for row 1\n")
     time.sleep(1)
-    [name] = [it for it in room.names if f"{it}: insert a card for row 1" in text]
-    (tmp_path / name / "out").unlink()
-    assert "row None" not in text + ended(run)[0]
+    (tmp_path / lines[-1].partition(":")[0] / "out").unlink()
+    assert "row None" not in "".join(lines) + ended(run)[0]
 
 
 def test_a_row_in_doubt_is_shown_with_its_card(tmp_path):
-    room = Room(tmp_path, 1)
-    room.put_in(room.names[0], 7)
+    room = Room(tmp_path, 1, card=7)
     room.run("--stop-after=1", "--id=9F7F")
     lines = room.run("--status")[1].splitlines()
     when = r"\d{4}-\d\d-\d\d \d\d:\d\d:\d\d"
@@ -155,8 +143,7 @@ class Terminal:
 @pytest.mark.parametrize("without", [":", "exec >&-", "exec 2>&-", "exec <&-"])
 def test_a_run_without_a_terminal_of_its_own_or_a_stream(tmp_path, without):
     """In a shell whose standard input is the terminal of another session, or without a stream."""
-    room, (ours, theirs) = Room(tmp_path, 2), pty.openpty()
-    room.environment["SLOW"] = "0.1"
+    room, (ours, theirs) = Room(tmp_path, 2, SLOW="0.1"), pty.openpty()
     shell = f"{without}; exec {shlex.join(room.words())}"
     run = subprocess.run(["setsid", "-w", "sh", "-c", shell], cwd=tmp_path, env=room.environment,
                          stdin=theirs, stdout=subprocess.PIPE, stderr=subprocess.PIPE, timeout=60)
@@ -167,8 +154,7 @@ def test_a_run_without_a_terminal_of_its_own_or_a_stream(tmp_path, without):
 
 
 def test_enter_writes_the_card_that_lies_in_the_reader(tmp_path):
-    room = Room(tmp_path, 2)
-    room.environment.update(LIES="yes", PYTHONIOENCODING="utf-8")
+    room = Room(tmp_path, 2, LIES="yes", PYTHONIOENCODING="utf-8")
     terminal = Terminal(room)
     terminal.read("or press Enter to write it")
     time.sleep(0.8)
@@ -180,8 +166,7 @@ def test_enter_writes_the_card_that_lies_in_the_reader(tmp_path):
 
 
 def test_enter_does_not_write_a_card_that_was_written(tmp_path):
-    room = Room(tmp_path, 2)
-    room.environment.update(LIES="yes", STAYS="yes")
+    room = Room(tmp_path, 2, LIES="yes", STAYS="yes")
     terminal = Terminal(room)
     terminal.read("or press Enter to write it")
     os.write(terminal.ours, b"\n")
@@ -209,19 +194,15 @@ def test_a_part_without_a_row_has_nothing_to_do(tmp_path, monkeypatch):
     room = Room(tmp_path, 3)
     wanted = "0 of 0 rows done, 0 to decide\n"
     assert room.run("--part=5/5")[:2] == (0, room.run()[1]) and room.run()[1].endswith(wanted)
-    from galliumtoad.batch import desk
-
-    shown = io.StringIO()
+    at, shown = room.desk(3), io.StringIO()
     monkeypatch.setattr(shown, "isatty", lambda: True, raising=False)
-    given = argparse.Namespace(go=True, stop_after=1, reader=[], report=None)
     with contextlib.redirect_stdout(shown):
-        desk.Desk([], room.opened(3), given)._turn()
+        at._turn()
     assert shown.getvalue() == f"\r\x1b[K[{'-' * 20}] 0 of 0 rows, 0 a minute"
 
 
 def test_an_interrupt_before_a_card_is_told_in_a_line(tmp_path):
-    room = Room(tmp_path, 1)
-    room.environment["LIES"] = "yes"
+    room = Room(tmp_path, 1, LIES="yes")
     assert room.run("--stop-after=1")[0] == 0
     (tmp_path / room.names[0] / "out").touch()
     run = interruptible(room, "--look=1", *room.readers)
@@ -231,8 +212,7 @@ def test_an_interrupt_before_a_card_is_told_in_a_line(tmp_path):
 
 
 def test_a_bar_on_a_terminal(tmp_path):
-    room = Room(tmp_path, 4)
-    room.environment["SLOW"] = "0.08"
+    room = Room(tmp_path, 4, SLOW="0.08")
     text = Terminal(room).read("to decide")
     bar = r"\r\x1b\[K\[([#-]{20})\] (\d) of 4 rows, (\d+) a minute(, \d+ min left)?"
     bars = re.findall(bar, text)
@@ -252,11 +232,10 @@ SECRET = "select A0000000031010\nput 5F20 @{name}\nput {tag} {code}\nsend {apdu}
 
 def test_a_dialogue_is_kept_without_a_value(tmp_path):
     """Each operation of the script is refused in turn, and the card returns what it got."""
-    room = Room(tmp_path, 1)
+    room = Room(tmp_path, 1, WORN="yes")
     room.write("script", SECRET)
     text = "name,tag,code,apdu\nJANE DOE,9F36,C0DE77,00DA5F2403C1C2C3\n"
     room.write("rows.csv", text)
-    room.environment["WORN"] = "yes"
     room.run("--stop-after=1", "--id=9F7F")
     file = tmp_path / "journal.cards/1.trace"
     kept = file.read_text()
@@ -311,8 +290,7 @@ def test_a_dialogue_shows_how_a_card_is_identified(more):
 
 
 def test_a_second_dialogue_follows_the_first(tmp_path):
-    room = Room(tmp_path, 1)
-    room.environment["WORN"] = "yes"
+    room = Room(tmp_path, 1, WORN="yes")
     for _ in range(2):
         room.run("--stop-after=1")
         room.run("--again=1")
@@ -321,56 +299,28 @@ def test_a_second_dialogue_follows_the_first(tmp_path):
 
 
 def test_a_dialogue_that_can_not_be_kept_is_named(tmp_path):
-    room = Room(tmp_path, 1)
-    room.environment["WORN"] = "yes"
+    room = Room(tmp_path, 1, WORN="yes")
     (tmp_path / "journal.cards").write_text("")
     out = room.run("--stop-after=1")[1]
     assert "the dialogue of row 1 is lost: File exists" in out and listed(out) == {1: "failed"}
 
 
-class Page(HTMLParser):
-    """The cells of a page, and the tags that are open at its end."""
-
-    def __init__(self, text):
-        super().__init__()
-        self.rows, self.open, self.points = [], [], ""
-        self.feed(text)
-        self.close()
-
-    def handle_starttag(self, tag, attributes):
-        if tag == "tr":
-            self.rows.append([])
-        if tag in ("td", "th"):
-            self.rows[-1].append("")
-        if tag == "polyline":
-            self.points = dict(attributes)["points"]
-        elif tag != "meta":
-            self.open.append(tag)
-
-    def handle_startendtag(self, tag, attributes):
-        if tag == "polyline":
-            self.points = dict(attributes)["points"]
-
-    def handle_endtag(self, tag):
-        assert self.open.pop() == tag
-
-    def handle_data(self, data):
-        if self.open and self.open[-1] in ("td", "th"):
-            self.rows[-1][-1] += data
+def rows_of(page):
+    """The cells of each row of a page."""
+    return [["".join(cell.itertext()) for cell in row] for row in page.iter("tr")]
 
 
 def test_reports(tmp_path):
-    room = Room(tmp_path, 4)
-    room.put_in(room.names[0], 10)
+    room = Room(tmp_path, 4, card=10)
     status, out, _ = room.run("--id=9F7F", "--report=day.html")
     assert status == 1 and listed(out) == {2: "failed"}
     assert room.run("--status", "--report=day.csv")[0] == 1
     twice = room.run("--status", "--journal=journal", "--journal=journal")
     assert twice == room.run("--status") and twice[1].endswith(", 1 to decide\n")
-    text, page = (tmp_path / "day.html").read_text(), Page((tmp_path / "day.html").read_text())
+    page = ElementTree.fromstring(text := (tmp_path / "day.html").read_text())
     with open(tmp_path / "day.csv", newline="") as file:
         rows = list(csv.reader(file))
-    assert rows == page.rows and page.open == []
+    assert rows == rows_of(page)
     assert rows[0] == ["row", "id", "reader", "time", "seconds", "outcome", "reason"]
     why = "put 50 was answered 9000, and read back another value"
     numbers = (10, 11, 12, 13)
@@ -380,7 +330,8 @@ def test_reports(tmp_path):
         assert re.fullmatch(r"\d+\.\d", found[4]) and datetime.fromisoformat(found[3])
     assert "<p>3 of 4 rows done, 1 failed, 0 unsure</p>" in text and "(median)" in text
     assert "PERSON" not in text and b"PERSON".hex().upper() not in text.upper()
-    points = [tuple(map(float, it.split(","))) for it in page.points.split()]
+    line = page.find(".//polyline").get("points")
+    points = [tuple(map(float, it.split(","))) for it in line.split()]
     assert len(points) == 3 and points == sorted(points, key=lambda it: (it[0], -it[1]))
     assert points[0] == (0.0, 100.0) and points[-1] == (600.0, 0.0)
 
@@ -398,21 +349,19 @@ def test_a_report_shows_signs_as_they_are(tmp_path):
     name = f"<b>&R {os.getpid()}"
     room.add_reader(name)
     room.run("--reader=<b>", "--report=day.html")
-    assert Page((tmp_path / "day.html").read_text()).rows[1][2] == name
+    assert rows_of(ElementTree.parse(tmp_path / "day.html"))[1][2] == name
 
 
 def test_the_name_of_a_reader_controls_no_terminal(tmp_path):
-    room, name = Room(tmp_path, 1, readers=0), f"R{os.getpid()}\x9b"
+    room, name = Room(tmp_path, 1, readers=0, WORN="yes"), f"R{os.getpid()}\x9b"
     room.add_reader(name)
-    room.environment["WORN"] = "yes"
     out, shown = room.run("--reader=R", "--stop-after=1")[1], name.replace("\x9b", "\\x9b")
     assert f"{shown}: row 1 failed" in out and f"row 1 failed: a card without an id, {shown}" in out
     assert "\x9b" not in out
 
 
 def test_a_report_is_whole_at_each_moment(tmp_path):
-    room = Room(tmp_path, 12)
-    room.environment["SLOW"] = "0.03"
+    room = Room(tmp_path, 12, SLOW="0.03")
     run, seen, is_over = room.start("--report=day.html"), set(), False
     while not is_over:
         time.sleep(0.02)
@@ -420,8 +369,7 @@ def test_a_report_is_whole_at_each_moment(tmp_path):
         if (tmp_path / "day.html").exists():
             text = (tmp_path / "day.html").read_text()
             assert text.startswith("<!DOCTYPE html>") and text.endswith("</html>\n")
-            assert Page(text).open == []
-            seen.add(len(Page(text).rows))
+            seen.add(len(rows_of(ElementTree.fromstring(text))))
     ended(run)
     assert len(seen) > 2 and max(seen) == 13
 
@@ -450,8 +398,7 @@ def test_two_processes_write_one_report(tmp_path, monkeypatch):
 
 
 def test_a_report_that_is_lost_stops_no_card(tmp_path):
-    room = Room(tmp_path, 4)
-    room.environment["SLOW"] = "0.05"
+    room = Room(tmp_path, 4, SLOW="0.05")
     (tmp_path / "here").mkdir()
     run = room.start("--report=here/day.html")
     room.begun()
@@ -460,20 +407,6 @@ def test_a_report_that_is_lost_stops_no_card(tmp_path):
     why = f"[Errno 2] No such file or directory: 'here/day.html.{run.pid}.new'"
     assert f"no report: {why}\n" in out and out.count(" done, ") == 4
     assert (run.returncode, error) == (2, f"galliumtoad.batch: {why}\n")
-
-
-def card_of(values):
-    return Card({AID: {tag: value for tag, value in values.items()}})
-
-
-def look(values, script=SCRIPT):
-    made = Script("script", script, ["name", "code"])
-    steps = steps_of(made, {"name": "JANE", "code": "0077"})
-    card = card_of(values)
-    before = {it.tag: it.value for it in card.entries(AID)}
-    found = compared(steps, card.tpdu)
-    assert {it.tag: it.value for it in card.entries(AID)} == before
-    return found
 
 
 ALL = {0x5F20: b"JANE", 0x9F36: b"\0\x77", 0x50: b"A" * 300}
@@ -495,12 +428,15 @@ ALL = {0x5F20: b"JANE", 0x9F36: b"\0\x77", 0x50: b"A" * 300}
     (ALL, SCRIPT + "select A0000000031011\nput 50 41*300\n", "partly: 3 of 4 objects"),
 ])  # fmt: skip
 def test_a_card_is_compared_with_a_row(values, script, word):
-    assert look(values, script) == word
+    """And stays as it is."""
+    steps = steps_of(Script("script", script, ["name", "code"]), {"name": "JANE", "code": "0077"})
+    card = Card({AID: values})
+    before = card.entries(AID)
+    assert compared(steps, card.tpdu) == word and card.entries(AID) == before
 
 
 def test_look_finds_what_a_card_holds(tmp_path):
-    room = Room(tmp_path, 2)
-    room.put_in(room.names[0], 11)
+    room = Room(tmp_path, 2, card=11)
     room.run("--stop-after=1", "--id=9F7F")
     words = ("--look=1", *room.readers)
     room.environment["LIES"] = "yes"
@@ -542,38 +478,10 @@ def test_look_finds_a_whole_row_and_waits_for_its_card(tmp_path):
     assert room.run(*words) == refused("--look needs one reader")
 
 
-def reason_of(script, answer):
-    """How a row ends whose card answers each read back in this way."""
-    row, card = {"name": "JANE", "code": "5F20"}, Card({AID: {}})
-    made = Script("script", script, [*row])
-
-    def reader(tpdu):
-        return answer if tpdu[1] == 0xCA else card.tpdu(tpdu)
-
-    return carry_out(steps_of(made, row), Recorder(reader))
-
-
-@pytest.mark.parametrize(("answer", "reason"), [
-    ("9000", "put 5F20 was answered 9000, and read back nothing"),
-    ("6A88", "put 5F20 was answered 9000, and its reading was answered 6A88 "
-     "referenced data not found"),
-    ("5F20014A9000", "put 5F20 was answered 9000, and read back another value"),
-    ("500441414141" + "9000", "put 5F20 was answered 9000, and read back nothing"),
-])  # fmt: skip
-def test_reasons_are_sentences(answer, reason):
-    script = "select A0000000031010\nput 5F20 @{name}\n"
-    assert reason_of(script, bytes.fromhex(answer)) == ("failed", reason)
-
-
 def test_a_reason_shows_no_cell(tmp_path):
-    script = "select A0000000031010\nput {code} @{name}\n"
-    wanted = ("failed", "put {code} was answered 9000, and read back nothing")
-    assert reason_of(script, b"\x90\x00") == wanted
-    room = Room(tmp_path, 1)
+    room = Room(tmp_path, 1, card=7, PULLED="yes")
     room.write("script", "select A0000000031010\nput {code} @{name}\n")
     room.write("rows.csv", "name,code\nJANE,9F21\n")
-    room.put_in(room.names[0], 7)
-    room.environment["PULLED"] = "yes"
     out = told(room.run("--stop-after=1")[1])
     text = "\n".join([*out, *room.journal()])
     assert "unsure" in text and "JANE" not in text and "9F21" not in text

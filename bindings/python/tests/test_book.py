@@ -1,42 +1,26 @@
 """Runs the plays of the book through the package. Each prints its stored output."""
 
+import re
+from itertools import takewhile
 from pathlib import Path
 
 import pytest
-from galliumtoad import CallError, Card, Get, Put, Select, Send, Session
+from galliumtoad import CallError, Card, Get, Select, Send, Session
+from galliumtoad.batch.script import Script
+from galliumtoad.cards import read_table
+from room import steps_of
 
 BOOK = Path(__file__).resolve().parents[3] / "examples"
 PLAYS = sorted(BOOK.rglob("*.play"))
 
 
-def value(word):
-    """The value of a word of a script: digits, `HH*N`, or `-`."""
-    if word == "-":
-        return b""
-    digits, _, count = word.partition("*")
-    return bytes.fromhex(digits) * int(count or 1)
-
-
-def lines(script):
-    """The words of each line, without empty lines and comments."""
-    text = script.read_text().splitlines()
-    return [line.split() for line in text if line.strip() and line[0] != "#"]
-
-
-def built(words):
-    """Builds the card of the first lines of a script. Returns it, and the other lines."""
-    tables, locked = {}, set()
-    for at, line in enumerate(words):
-        if line[0] == "app":
-            aid = bytes.fromhex(line[1])
-            tables[aid] = {}
-        elif line[0] in ("object", "locked"):
-            tag = int(line[1], 16)
-            tables[aid][tag] = value(line[2])
-            (locked.add if line[0] == "locked" else locked.discard)((aid, tag))
-        else:
-            return Card(tables, locked), words[at:]
-    return Card(tables, locked), []
+def built(script, folder):
+    """Builds the card of the first lines of a script. Returns it, and the words of the others."""
+    lines = [it for it in script.read_text().splitlines() if it.strip() and it[0] != "#"]
+    own = [*takewhile(lambda it: it.split()[0] in ("app", "object", "locked"), lines)]
+    table = re.sub(r"(..)\*(\d+)", lambda it: it[1] * int(it[2]), "\n".join(own))
+    (folder / "table").write_text(table)
+    return read_table(folder / "table")[0], [it.split() for it in lines[len(own) :]]
 
 
 def table(holder):
@@ -58,18 +42,9 @@ def dialogue(session):
     return [f"{'<' if is_card else '>'} {sent.hex().upper()}" for is_card, sent in turns]
 
 
-def operation(words):
-    if words[0] == "get":
-        return Get(int(words[1], 16))
-    if words[0] == "put":
-        return Put(int(words[1], 16), value(words[2]))
-    return {"select": Select, "send": Send}[words[0]](bytes.fromhex(words[1]))
-
-
-def played(script):
+def played(script, folder):
     """The output of `card_trace play` for a script."""
-    card, words = built(lines(script))
-    plans = []
+    (card, words), plans = built(script, folder), []
     with Session(card) as session:
         session.listen()
         for line in words:
@@ -81,7 +56,8 @@ def played(script):
             elif line[0] == "table":
                 yield from table(session)
             else:
-                yield from carried_out(session, operation(line), plans)
+                [step] = steps_of(Script("", " ".join(line), []), {})
+                yield from carried_out(session, step.operation, plans)
                 plans = []
 
 
@@ -93,16 +69,12 @@ def carried_out(session, asked, plans):
         session.plan(steps, cut)
     status, data = session.run(asked)
     yield from dialogue(session)
-    yield shown(status, data)
-
-
-def shown(status, data):
-    return f"= {status:04X} {data.hex().upper()}".rstrip()
+    yield f"= {status:04X} {data.hex().upper()}".rstrip()
 
 
 @pytest.mark.parametrize("script", PLAYS, ids=lambda it: str(it.relative_to(BOOK)))
-def test_play(script):
-    assert list(played(script)) == script.with_suffix(".out").read_text().splitlines()
+def test_play(tmp_path, script):
+    assert list(played(script, tmp_path)) == script.with_suffix(".out").read_text().splitlines()
 
 
 def test_a_busy_card_is_named():

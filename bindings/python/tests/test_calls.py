@@ -134,36 +134,30 @@ def test_what_is_wrong_is_refused_before_a_call(monkeypatch):
     assert terminal.answer() == begun
 
 
-@pytest.mark.parametrize("wrong", ["50", 5.0, None, Decimal("5.5")])
-def test_what_is_no_number_is_a_type_error(wrong):
-    for call in [
-        lambda: Terminal().begin(Get(wrong)),
-        lambda: Terminal(wrong),
-        lambda: find(b"", wrong),
-        lambda: head(wrong, 0),
-        lambda: head(0x50, wrong),
-        lambda: Pps(wrong),
-        lambda: card().plan("", wrong),
-        lambda: card().send_bytes(wrong),
-    ]:
-        with pytest.raises(TypeError):
-            call()
+# The most that a number may be, and a call with it.
+NUMBERS = [
+    (0xFFFFFF, lambda it: Terminal().begin(Get(it))),
+    (0xFFFFFF, lambda it: find(b"", it)),
+    (0xFFFFFF, lambda it: head(it, 0)),
+    (0xFFFF, lambda it: head(0x50, it)),
+    (0xFFFF, lambda it: card().plan("", it)),
+    (15, Pps),
+    (255, lambda it: T1(bytes, it)),
+    (255, lambda it: T1(bytes, 1, it)),
+    (255, lambda it: Status(0x9000).words(it)),
+    (255, lambda it: Status(0x9000).words(0, it)),
+    (1 << 30, lambda it: card().send_bytes(it)),
+    (1 << 63, Terminal),
+]
 
 
-@pytest.mark.parametrize("wrong", [-1, 1 << 24, 1 << 70])
-def test_numbers_out_of_range_are_value_errors(wrong):
-    for call in [
-        lambda: Terminal().begin(Get(wrong)),
-        lambda: find(b"", wrong),
-        lambda: head(wrong, 0),
-        lambda: head(0x50, wrong),
-        lambda: Pps(wrong),
-        lambda: Pps(0, pps1=wrong),
-        lambda: card().plan("", wrong),
-        lambda: Status(wrong).text,
-    ]:
-        with pytest.raises(ValueError):
-            call()
+@pytest.mark.parametrize(("most", "call"), NUMBERS)
+def test_a_number_is_an_integer_in_its_range(most, call):
+    for error, wrong in ((TypeError, ("50", 5.0, None, Decimal(5))),
+                         (ValueError, (-1, most + 1, 1 << 70))):
+        for it in wrong:
+            with pytest.raises(error):
+                call(it)
 
 
 def test_a_nul_does_not_end_a_plan():
@@ -177,6 +171,9 @@ def test_a_nul_does_not_end_a_plan():
 
 def test_the_most_and_the_least_are_taken():
     assert Pps(15, 255, 0).request.hex().startswith("ff3fff00") and Pps(0).request
+    for number in (-1, 256):  # None leaves the byte out
+        with pytest.raises(ValueError):
+            Pps(0, pps1=number)
     assert head(0xFF8101, 0xFFFF).hex() == "ff810182ffff"
     assert card().plan("", 1) is card().plan("", 256) is None
 
@@ -185,10 +182,14 @@ class Long(bytes):
     def __len__(self):
         return 40
 
+    def __bytes__(self):
+        return bytes(4)
+
 
 def test_any_bytes_like_object_is_read():
     assert find(Long(b"P\0"), 0x50).encoded == b"P\0"
     assert Exchange(Long(SELECT)).tpdu().data == SELECT[:-1]
+    assert Atr(Long(bytes.fromhex("3B02144E"))).historical == b"\x14N"
     session = Session(card())
     assert session.run(Select(bytearray(AID))).status.is_ok
     assert session.run(Put(0x5F20, memoryview(b"xANNx")[1:4])).status.is_ok
@@ -197,7 +198,13 @@ def test_any_bytes_like_object_is_read():
         session.run(Put(0x5F20, memoryview(b"A.N.N.")[::2]))
 
 
+class Tag:
+    def __index__(self):
+        return 0x50
+
+
 def test_what_a_card_holds():
+    assert Card({AID: {Tag(): b""}}, locked=[(AID, Tag())]).entries(AID) == [(0x50, b"", True)]
     held = card()
     assert held.applications == [AID] and held.selected is None
     assert held.entries(AID) == [(0x5F20, b"JOE", False), (0x50, b"A" * 600, True)]
@@ -374,9 +381,9 @@ def test_what_shows():
     assert Status(0x63C2).words(0x7F, 0x20) == "a warning: 2 tries are left"
     assert Status(0x63C2).words(0x20, 0x7F) == "a warning: a counter is at 2"
     assert Status(0x9F16).words(0xA0, 0xA4) == "22 bytes of the response wait"
-    for cla, ins in ((-1, 0), (256, 0), (0, -1), (0, 256)):
+    for number in (-1, 0x10000):
         with pytest.raises(ValueError):
-            Status(0x9000).words(cla, ins)
+            Status(number).text
 
 
 def test_answers_to_reset_and_pps():

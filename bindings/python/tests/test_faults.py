@@ -184,26 +184,14 @@ def said(it, *tpdus):
 T0_JOB = [SELECT, bytes.fromhex("00C000000B"), *PUTS, GET]
 # What the card sends in a TPDU of the job at T=0, by its place: procedure bytes, data and status.
 AT_T0 = {
-    "nulls before the answer": {2: b"\x60" * 1000 + b"\xda\x90\x00"},
-    "procedure byte that is invalid": {2: b"\x33\x90\x00"},
-    "procedure byte for one byte": {2: b"\x25\x90\x00"},
-    "status before the data": {2: b"\x90\x00"},
-    "status before the last data": {4: b"\x90\x00"},
-    "byte lost at T=0": {5: b"\xca" + FIRST[:8] + FIRST[9:] + b"\x61\x00"},
-    "byte too many at T=0": {5: b"\xca" + FIRST[:8] + b"\x55" + FIRST[8:] + b"\x61\x00"},
+    "nulls before the answer": (2, b"\x60" * 1000 + b"\xda\x90\x00"),
+    "procedure byte that is invalid": (2, b"\x33\x90\x00"),
+    "procedure byte for one byte": (2, b"\x25\x90\x00"),
+    "status before the data": (2, b"\x90\x00"),
+    "status before the last data": (4, b"\x90\x00"),
+    "byte lost at T=0": (5, b"\xca" + FIRST[:8] + FIRST[9:] + b"\x61\x00"),
+    "byte too many at T=0": (5, b"\xca" + FIRST[:8] + b"\x55" + FIRST[8:] + b"\x61\x00"),
 }
-
-
-@pytest.mark.parametrize("name", AT_T0)
-def test_characters(name):
-    trial = next(it for it in trials() if it.name == name)
-    it, struck = simulator(trial.faults, 0)
-    [(number, expected)] = AT_T0[name].items()
-    # a TPDU that ended early takes no data
-    job = list(T0_JOB)
-    if name.startswith("status"):
-        job[number] = job[number][:5]
-    assert said(it, *job)[number] == expected and len(struck) == 1
 
 
 WHOLE_AT_T0 = [
@@ -224,12 +212,15 @@ WHOLE_AT_T0 = [
 ]
 
 
+WHOLE_AT_T0 += [(it.faults, *AT_T0[it.name]) for it in trials() if it.name in AT_T0]
+
+
 @pytest.mark.parametrize(("fault", "place", "expected"), WHOLE_AT_T0)
-def test_whole_faults_in_characters(fault, place, expected):
+def test_characters(fault, place, expected):
     it, struck = simulator(fault, 0)
     job = T0_JOB[: place + 1]
-    if fault.endswith("reset"):
-        job[place] = job[place][:5]  # the card refuses the header
+    if fault.endswith(("reset", "early status")):
+        job[place] = job[place][:5]  # a TPDU that ends early takes no data
     assert said(it, *job)[place] == expected and len(struck) == 1
 
 
@@ -266,19 +257,6 @@ AT_T1 = {
 }
 
 
-@pytest.mark.parametrize("kind", AT_T1)
-def test_blocks(kind):
-    """A line fault at T=1 changes one block, and the terminal gets the answer all the same."""
-    it, struck = simulator(f"command 1, {kind}")
-    end = End(it, at_t1)
-    with T1(end.pass_block) as terminal:
-        assert terminal(JOB[0]) == ANSWERS[0]
-        expected = AT_T1[kind](block(0, 0, ANSWERS[0]))
-        assert end.blocks[1 : 1 + len(expected)] == expected and len(struck) == 1
-        for command, answer in zip(JOB[1:], ANSWERS[1:]):
-            assert terminal(command) == answer
-
-
 BLOCKS = [it for it in trials() if it.places == {"a line at T=1"}]
 
 
@@ -288,13 +266,16 @@ def test_each_trial_of_a_line_is_tried():
     assert sorted(names) == sorted(it.name for it in trials())
 
 
-@pytest.mark.parametrize("trial", BLOCKS, ids=lambda it: it.name)
-def test_blocks_of_a_trial(trial):
+OF_BYTES = [f"command 2, {it}" for it in AT_T1 if it.startswith("byte")]
+
+
+@pytest.mark.parametrize("fault", [*(it.faults for it in BLOCKS), *OF_BYTES])
+def test_blocks(fault):
     """They come in place of the response of its command, which has one block, and the rest of the
     job is as without a fault, unless the card aborts."""
-    it, struck = simulator(trial.faults)
+    it, struck = simulator(fault)
     end = End(it, at_t1)
-    sent, (when, kind) = end.blocks, trial.faults.split(", ")
+    sent, (when, kind) = end.blocks, fault.split(", ")
     number = int(when.split()[1])
     with T1(end.pass_block) as terminal:
         for place, (command, answer) in enumerate(zip(JOB, ANSWERS), 1):
@@ -365,26 +346,32 @@ def test_a_card_whose_first_protocol_is_t0_carries_out_commands_at_t1():
     assert sent == [block(0, 0, FCI + b"\x90\0")]
 
 
-def test_an_abort_of_the_terminal():
-    """It drops the part of a command, and keeps the numbers."""
-    sent = blocks(simulator("")[0], block(0, 0, SELECT), block(0, 0x60, GET_NAME[:2]),
-                  block(0, 0xC2, b""), block(0, 0, GET_NAME))
-    assert sent[1:] == [block(0, 0x80, b""), block(0, 0xE2, b""), block(0, 0x40, NAME)]
+PART, DAMAGED = block(0, 0x60, GET_NAME[:2]), block(0, 0x60, GET_NAME[:2])[:-1] + b"\0"
+# Faults, blocks of a terminal that has selected, and the card's answers.
+TALKS = [
+    # an abort drops the part of a command, and keeps the numbers
+    ("", [PART, block(0, 0xC2, b""), block(0, 0, GET_NAME)],
+     [block(0, 0x80, b""), block(0, 0xE2, b""), block(0, 0x40, NAME)]),
+    # a resynchronisation also begins the numbers and the field size again
+    ("", [block(0, 0xC1, b"\x04"), PART, block(0, 0xC0, b""), block(0, 0, GET_NAME)],
+     [block(0, 0xE1, b"\x04"), block(0, 0x80, b""), block(0, 0xE0, b""), block(0, 0, NAME)]),
+    # a part that was damaged counts once, when it comes again
+    ("", [DAMAGED, PART, block(0, 0, GET_NAME[2:])],
+     [block(0, 0x91, b""), block(0, 0x80, b""), block(0, 0x40, NAME)]),
+    # only the first block of a response has faults
+    ("command 2, lose; command 2, lrc",
+     [block(0, 0xC1, b"\x04"), block(0, 0x40, GET_NAME), block(0, 0x92, b""), block(0, 0x80, b"")],
+     [block(0, 0xE1, b"\x04"), b"", block(0, 0x60, NAME[:4]), block(0, 0, NAME[4:])]),
+    # nothing is left of a lost block to change, nor when it is sent again
+    *((f"command 2, lose; command 2, {it}", [block(0, 0x40, GET_NAME), block(0, 0x92, b"")],
+       [b"", block(0, 0x40, NAME)]) for it in ("lrc", "nad", "double", "byte 1 flip")),
+]  # fmt: skip
 
 
-def test_a_resynchronisation():
-    """It begins the numbers and the field size again, and drops the part of a command."""
-    sent = blocks(simulator("")[0], block(0, 0, SELECT), block(0, 0xC1, b"\x04"),
-                  block(0, 0x60, GET_NAME[:2]), block(0, 0xC0, b""), block(0, 0, GET_NAME))
-    assert sent[2:] == [block(0, 0x80, b""), block(0, 0xE0, b""), block(0, 0, NAME)]
-
-
-def test_a_part_of_a_command_that_was_damaged():
-    """It counts once, when it comes again."""
-    part = block(0, 0x60, GET_NAME[:2])
-    sent = blocks(simulator("")[0], block(0, 0, SELECT), part[:-1] + b"\0", part,
-                  block(0, 0, GET_NAME[2:]))
-    assert sent[1:] == [block(0, 0x91, b""), block(0, 0x80, b""), block(0, 0x40, NAME)]
+@pytest.mark.parametrize(("faults", "sent", "answers"), TALKS)
+def test_a_talk_in_blocks(faults, sent, answers):
+    it, struck = simulator(faults)
+    assert blocks(it, block(0, 0, SELECT), *sent)[1:] == answers and len(struck) == bool(faults)
 
 
 @pytest.mark.parametrize(
@@ -515,21 +502,6 @@ def test_a_change_that_finds_no_data_ends_with_its_command():
     it, struck = simulator("command 2, cut 2")
     answers = whole(it, [JOB[0], bytes.fromhex("00DA00510141"), GET_NAME])
     assert answers[1:] == [b"\x90\x00", NAME] and not struck
-
-
-@pytest.mark.parametrize("kind", ["lrc", "nad", "double", "byte 1 flip"])
-def test_nothing_is_left_of_a_lost_block_to_change(kind):
-    """Nor when it is sent again, since the faults of a command strike at one block."""
-    it, struck = simulator(f"command 1, lose; command 1, {kind}")
-    sent = blocks(it, block(0, 0, JOB[0]), block(0, 0x82, b""))
-    assert sent == [b"", block(0, 0, ANSWERS[0])] and len(struck) == 1
-
-
-def test_faults_strike_at_the_first_block_of_a_response():
-    it, struck = simulator("command 2, lose; command 2, lrc")
-    sent = blocks(it, block(0, 0, SELECT), block(0, 0xC1, b"\x04"), block(0, 0x40, GET_NAME),
-                  block(0, 0x92, b""), block(0, 0x80, b""))
-    assert sent[2:] == [b"", block(0, 0x60, NAME[:4]), block(0, 0, NAME[4:])] and len(struck) == 1
 
 
 @pytest.mark.parametrize(("t", "expected"), [(0, b"\xa4\x61\x0b"), (1, block(0, 0, b"\x61\x0b"))])

@@ -3,7 +3,6 @@
 import asyncio
 import importlib.util
 import json
-import os
 import platform
 import re
 import shutil
@@ -16,9 +15,9 @@ import galliumtoad
 import pytest
 from galliumtoad import CallError, Get, Select
 from galliumtoad.__main__ import PROGRAMS, main
+from room import with_standin
 
-TESTS = Path(__file__).resolve().parent
-TOP = TESTS.parent
+TOP = Path(__file__).resolve().parent.parent
 EXAMPLE = TOP / "examples" / "over_asyncio.py"
 HEADER = TOP.parent / "c" / "include" / "galliumtoad.h"
 AID = bytes.fromhex("A0000000031010")
@@ -31,9 +30,8 @@ def version():
 
 def python(*words, **more):
     """Runs Python with the package and the stand-in for pyscard."""
-    paths = [str(Path(galliumtoad.__file__).parent.parent), str(TESTS / "standin")]
-    more["env"] = {**os.environ, "PYTHONPATH": ":".join(paths), **more.get("env", {})}
-    return subprocess.run([sys.executable, *words], capture_output=True, text=True, **more)
+    how = {"capture_output": True, "text": True, "env": with_standin()}
+    return subprocess.run([sys.executable, *words], **how, **more)
 
 
 def test_the_version_is_the_header_s():
@@ -60,6 +58,17 @@ def test_other_words_are_refused(words):
     assert (done.returncode, done.stdout) == (2, "") and "\ngalliumtoad: error: " in done.stderr
 
 
+@pytest.mark.parametrize("program", ["__main__", *PROGRAMS])
+@pytest.mark.parametrize("words", [["--only=--"], ["--faults="], ["--report", ""]])
+def test_no_option_has_an_empty_value(capsys, program, words):
+    """As that of a variable that is not set. After -- a word may be empty."""
+    program = importlib.import_module(f"galliumtoad.{program}").main
+    assert program(["--help", *words]) == 2
+    assert capsys.readouterr() == ("", f"an empty value: '{words[-1]}'\n")
+    with pytest.raises(SystemExit, match="^0$"):
+        program(["--help", "--", *words])
+
+
 @pytest.mark.parametrize("words", [[], ["--help"], ["--version", "x"], ["a", "-b"]])
 @pytest.mark.parametrize("status", [0, 1, 2])
 def test_a_program_gets_its_words_and_gives_its_status(monkeypatch, words, status):
@@ -73,7 +82,7 @@ def test_a_program_gets_its_words_and_gives_its_status(monkeypatch, words, statu
 
 def test_a_program_is_that_of_its_own_module():
     of_module, of_package = (
-        python("-m", *words, "--help", env={"STANDIN": "/"})
+        python("-m", *words, "--help")
         for words in (["galliumtoad.batch"], ["galliumtoad", "batch"])
     )
     assert of_module.stdout == of_package.stdout and "--journal" in of_module.stdout

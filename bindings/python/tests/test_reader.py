@@ -16,7 +16,8 @@ from collections import Counter
 from pathlib import Path
 
 import pytest
-from room import FULL, Room
+from room import Room
+from waiting import wait_until
 
 HERE = Path(__file__).resolve().parent
 C = HERE.parents[1] / "c"
@@ -35,7 +36,7 @@ def compiled(folder):
         ["pkg-config", "--cflags", "libpcsclite"], capture_output=True, text=True, check=True
     )
     warnings = ["-Wall", "-Wextra", "-Wpedantic", "-Wshadow", "-Wconversion", "-Werror"]
-    program = ["cc", "-std=c99", "-D_POSIX_C_SOURCE=200809L", *warnings, *flags.stdout.split()]
+    program = ["cc", "-std=c99", *warnings, *flags.stdout.split()]
     program += ["-Iinclude", "-Iexamples", "-Itools", "-fPIC", "-shared", "-Wl,-z,defs", "-o", made]
     program += [HERE / "reader" / "kept_reader.c", "examples/table.c", "tools/text.c", library]
     subprocess.run(program, cwd=C, check=True)
@@ -100,15 +101,13 @@ class Desk(Room):
 
     def await_readers(self, readers):
         asks = "from smartcard.System import readers; print(len(readers()))"
-        for _ in range(240):
-            time.sleep(0.25)
+        how = {"env": self.environment, "text": True, "capture_output": True}
+
+        def are_there():
             assert self.pcscd.poll() is None, (self.path / "pcscd.log").read_text()[-2000:]
-            found = subprocess.run(
-                [sys.executable, "-c", asks], env=self.environment, text=True, capture_output=True
-            )
-            if found.stdout == f"{readers}\n":
-                return
-        raise AssertionError((self.path / "pcscd.log").read_text()[-2000:])
+            return subprocess.run([sys.executable, "-c", asks], **how).stdout == f"{readers}\n"
+
+        wait_until(are_there)
 
     def change(self):
         """Waits until all cards are removed from the readers."""
@@ -125,9 +124,9 @@ class Desk(Room):
         return [int(it) for it in counts.split()]
 
     def held(self):
-        """Counts the cards with all values of a row, and those with some of them. A card that was
-        inserted again counts as it is now. No card has values of two rows."""
-        whole, some, cards = Counter(), Counter(), {}
+        """Counts the cards with all values of each row. A card that was inserted again counts as it
+        is now. No card has values of two rows."""
+        whole, cards = Counter(), {}
         for at, line in enumerate((self.path / "kept").read_text().splitlines()):
             values = dict(it.split("=") for it in line.split()[1:])
             cards[values.get("9F7F", at)] = values
@@ -135,10 +134,9 @@ class Desk(Room):
             name, code = bytes.fromhex(values.get("5F20", "")).decode(), values.get("9F36")
             if name:
                 row = int(name.removeprefix("PERSON "))
-                some[row] += 1
                 whole[row] += (code, values.get("50")) == (f"{row:08X}", "41" * 300)
                 assert code in (None, f"{row:08X}"), values
-        return whole, some
+        return whole
 
     def wait_for_rows(self, runs, part, at_random):
         """Waits until these runs have done a random part of the rows that are left, at most
@@ -153,15 +151,13 @@ class Desk(Room):
         time.sleep(at_random.uniform(0, 0.05))
 
     def decide(self):
-        """Decides each undecided row by the contents of the cards. Returns the number of these
-        rows."""
+        """Decides each undecided row by the contents of the cards."""
         left = self.to_decide()
         if left:
             self.change()
-            whole, _ = self.held()
+            whole = self.held()
             words = [f"--{'done' if whole[it] else 'again'}={it}" for it in left]
             assert self.run(*words)[0] in (0, 1)
-        return len(left)
 
     def cut(self, at_random):
         """Cuts the last line of the journal, like a crash during a write."""
@@ -173,13 +169,6 @@ class Desk(Room):
             last = "begin 1 2026-01-01"
         (self.path / "journal").write_text(text + last[: at_random.randrange(1, len(last))])
 
-    def start_full(self, room):
-        """Starts a run whose files may grow by `room` bytes."""
-        size = (self.path / "journal").stat().st_size + room
-        program = self.words(go=False)
-        program[1:3] = ["-c", FULL.format(size)]
-        return self.start_program(program)
-
 
 @pytest.fixture
 def desk(tmp_path):
@@ -190,16 +179,15 @@ def desk(tmp_path):
 
 @pytest.mark.skipif(missing() is not None, reason=str(missing()))
 def test_over_a_pcscd(desk):
-    at_random, kills = random.Random(11), 0
-    counts, begun = Counter(), time.monotonic()
+    at_random, kills, begun = random.Random(11), 0, time.monotonic()
     desk.create(0x9F7F)
     last = f"{CARDS} of {CARDS} rows done, 0 to decide\n"
     outs, status = [], ""
     while status != last:
         kind = at_random.choice(["one"] * 8 + ["full", "two", "same"]) if kills < KILLS else "one"
-        counts[kind] += 1
         if kind == "full":
-            runs = [desk.start_full(at_random.randrange(1, 1200))]
+            size = (desk.path / "journal").stat().st_size + at_random.randrange(1, 1200)
+            runs = [desk.start_full(size, go=False)]
         elif kind == "two":
             runs = [desk.start(*it, go=False) for it in (desk.readers[::2], desk.readers[1::2])]
         else:
@@ -215,23 +203,14 @@ def test_over_a_pcscd(desk):
             outs += [*out.splitlines(), *error.splitlines()]
         if kills < KILLS and at_random.random() < 0.25:
             desk.cut(at_random)
-            counts["cut"] += 1
         if kills % 8 == 0 or kills >= KILLS:
-            counts["decided"] += desk.decide()
+            desk.decide()
             status = desk.run("--status")[1]
             print(f"{time.monotonic() - begun:6.0f} s, {kills} kills: {status}", end="", flush=True)
     desk.change()
     cards, pulled, again = desk.close()
-    whole, some = desk.held()
+    whole = desk.held()
     refused = sum(" has row " in it for it in outs)
     print(f"{cards} cards, {pulled} pulled, {again} inserted again, {refused} times refused")
-    print(f"{sum(some.values())} hold a name, {sum(whole.values())} a whole row")
-    print(dict(counts), dict(Counter(kind_of(it) for it in outs)))
     assert whole == Counter(range(1, CARDS + 1)) and kills == KILLS
     assert pulled > CARDS // 100 and again > CARDS // 100 and refused > 0
-
-
-def kind_of(line):
-    """The form of a line of output, without the parts that differ between cards."""
-    words = line.split(": ", 1)[-1].replace(",", "").split()
-    return " ".join(it for it in words if not any(sign.isdigit() for sign in it))

@@ -12,7 +12,6 @@ import sys
 import threading
 import time
 import tty
-from pathlib import Path
 
 import pytest
 from galliumtoad import Card, simulate
@@ -21,7 +20,6 @@ from galliumtoad.simulate import Simulator, main, read_table, serve_vpcd
 from galliumtoad.trials import trials
 from waiting import AtPty
 
-SOURCE = str(Path(simulate.__file__).parent.parent)
 AID = "A0000000031010"
 TABLE = f"app {AID}\nobject 5F20 4A4F45\nlocked 50 -\n"
 SELECT = bytes.fromhex(f"00A4040007{AID}")
@@ -39,16 +37,13 @@ def files(tmp_path):
 
 
 @pytest.fixture
-def at_pty(files):
-    made = []
-
+def at_pty(files, request):
     def start(table=TABLE, faults="", words=()):
-        made.append(AtPty(*files(table, faults), *words))
-        return made[-1]
+        card = AtPty(*files(table, faults), *words)
+        request.addfinalizer(card.end)
+        return card
 
-    yield start
-    for it in made:
-        it.end()
+    return start
 
 
 def test_a_line_at_t0(at_pty, tmp_path):
@@ -56,12 +51,12 @@ def test_a_line_at_t0(at_pty, tmp_path):
     card = at_pty(faults="INS CA once, status 6F00", words=["-v"])
     for status in ("6f00", "6985"):
         card.open()
-        assert card.read(2).hex() == "3b00"
         assert card.talk(bytes.fromhex("00CA5F2006"), 2).hex() == status
         assert card.talk(SELECT[:5], 1).hex() == "a4"
         assert card.talk(SELECT[5:], 2).hex() == "610b"
         found = card.talk(bytes.fromhex("00CA5F2006"), 9)
         assert found.hex() == "ca5f20034a4f459000"
+        assert card.talk(bytes.fromhex("00CA5F2006"), 1).hex() == "ca"  # the rest is not read
         card.close()
     struck = f"fault at command 1: {tmp_path}/faults:1: INS CA once, status 6F00"
     assert card.end()[0].splitlines()[:5] == ["reset", "< 3B00", "> 00CA5F2006", struck, "< 6F00"]
@@ -69,13 +64,11 @@ def test_a_line_at_t0(at_pty, tmp_path):
 
 def test_a_line_at_t1(at_pty):
     card = at_pty(TABLE + "atr 3B800181\n", words=["--no-echo"])
-    card.open()
-    assert card.read(4).hex() == "3b800181"
+    card.open("3B800181")
     command = block(0, 0, SELECT + b"\x00")
     assert card.talk(command, 17)[3:-1].hex() == "6f098407a00000000310109000"
     os.write(card.line, command[:7])  # and then it stops: the card asks for the block again
     assert card.read(4).hex() == "00920092"
-    card.close()
 
 
 @pytest.mark.parametrize(
@@ -87,15 +80,13 @@ def test_a_line_at_t1(at_pty):
 )
 def test_pps(at_pty, atr, request_, response):
     card = at_pty(TABLE + f"atr {atr}\n")
-    card.open()
-    card.read(len(atr) // 2)
+    card.open(atr)
     assert card.talk(bytes.fromhex(request_), len(response) // 2).hex() == response
     assert card.read(1, 0.3) == b""
     if response == "ff01fe":
         assert card.talk(block(0, 0xC1, b"\x20"), 5) == block(0, 0xE1, b"\x20")
     if response == "ff00ff":
         assert card.talk(SELECT[:5], 1).hex() == "a4"
-    card.close()
 
 
 def test_an_echo_that_differs(at_pty):
@@ -103,24 +94,19 @@ def test_an_echo_that_differs(at_pty):
     trial = next(it for it in trials() if it.name == "echo that differs")
     card = at_pty(faults=trial.faults)
     card.open()
-    assert card.read(2).hex() == "3b00"
     assert card.talk(SELECT[:5], 1).hex() == "a4" and card.talk(SELECT[5:], 2).hex() == "610b"
     put = bytes.fromhex("00DA00510141")
     os.write(card.line, put[:5])
     assert card.read(6).hex() == "00da005100da"
     assert card.talk(put[5:], 2).hex() == "9000"
-    card.close()
     assert card.end()[0].count("wrong echo") == 1
 
 
 def test_inverse_convention(at_pty):
     card = at_pty(TABLE + "atr 3F00\n")
-    card.open()
-    # TS of the inverse convention, as a line in the direct one shows it
-    assert card.read(2).hex() == "03ff"
+    card.open("03FF")  # as a line in the direct convention shows it
     turned = bytes(int(f"{it:08b}"[::-1], 2) ^ 0xFF for it in SELECT[:5])
     assert card.talk(turned, 1) == bytes([int(f"{0xA4:08b}"[::-1], 2) ^ 0xFF])
-    card.close()
 
 
 @pytest.mark.parametrize("fault", ["mute", "power off"])
@@ -128,7 +114,6 @@ def test_silence_until_the_next_reset(at_pty, fault):
     card = at_pty(faults=f"command 1, {fault}")
     for is_gone in (True, False):
         card.open()
-        assert card.read(2).hex() == "3b00"
         assert card.talk(bytes.fromhex("00CA5F2006"), 0) == b""
         assert card.read(2, 0.5 if is_gone else 30).hex() == ("" if is_gone else "6985")
         card.close()
@@ -140,11 +125,8 @@ def test_a_tty(files):
     ours, theirs = pty.openpty()
     tty.setraw(theirs)
     words = [*files(), "--tty", os.ttyname(theirs), "--baud", "19200"]
-    program = subprocess.Popen(
-        [sys.executable, "-m", "galliumtoad.simulate", *words],
-        env={**os.environ, "PYTHONPATH": SOURCE},
-        stderr=subprocess.PIPE,
-    )
+    words = [sys.executable, "-m", "galliumtoad.simulate", *words]
+    program = subprocess.Popen(words, stderr=subprocess.PIPE)
     found = b""
     while len(found) < 2 and select.select([ours], [], [], 60)[0]:
         found += os.read(ours, 2)
@@ -205,16 +187,13 @@ def test_an_answer_longer_than_a_message_is_cut():
 
 
 @pytest.fixture
-def vpcd():
-    made = []
-
+def vpcd(request):
     def start(*words):
-        made.append(Vpcd(*words))
-        return made[-1]
+        it = Vpcd(*words)
+        request.addfinalizer(it.end)
+        return it
 
-    yield start
-    for it in made:
-        it.end()
+    return start
 
 
 def test_vpcd(vpcd):
@@ -319,6 +298,16 @@ def test_a_name_that_the_output_lacks_is_no_end_of_the_line(monkeypatch):
         Simulator(Card({bytes(5): {}})).tell("fault at command 1: f\u00fcr:1: ..")
 
 
+def test_a_fault_of_a_file_whose_name_is_not_utf_8(files, tmp_path):
+    """It strikes, and its line shows the name."""
+    (tmp_path / "\udcff").write_text("command 1, status 6F00")
+    card = AtPty(*files()[:2], "--faults", tmp_path / "\udcff").open()
+    assert card.talk(bytes.fromhex("00CA5F2006"), 2).hex() == "6f00"
+    card.close()
+    wanted = f"fault at command 1: {tmp_path}/\\udcff:1: command 1, status 6F00\n"
+    assert card.end() == (wanted, "")
+
+
 def test_files_of_another_system(files, monkeypatch):
     """CR before LF. A byte order mark may precede faults; no line of a script begins with one."""
     table, faults = TABLE, "\uFEFFcommand 1, mute\nafter 2, mute\n"
@@ -333,7 +322,7 @@ def test_the_program_ends_with_the_reader_of_its_output(at_pty, words):
     """It can print no dialogue, and no fault. That is not the end of the line."""
     card = at_pty(faults="command 1, status 6F00", words=words)
     card.program.stdout.close()
-    os.write(card.open().line, bytes.fromhex("00CA5F2006"))
+    os.write(card.open("").line, bytes.fromhex("00CA5F2006"))
     assert card.program.wait(60)
     card.said = card.program.stderr.read()
     assert card.said.startswith("standard output: [Errno 32] Broken pipe\n")
@@ -388,8 +377,8 @@ def test_files_and_ports_that_are_missing(tmp_path, capsys):
     assert main(["--table", table, "--pty", "--faults", "/none"]) == 2
     assert main(["--table", table, "--tty", "/none"]) == 1
     assert capsys.readouterr().err.count("No such file") == 2
-    assert main(["--table", table, "--tty", "/dev/null"]) == 1
-    assert capsys.readouterr().err == "[Errno 25] Inappropriate ioctl for device: '/dev/null'\n"
+    assert main(["--table", table, "--tty", table]) == 1
+    assert capsys.readouterr().err == f"[Errno 25] Inappropriate ioctl for device: '{table}'\n"
     ports = ("localhost", "localhost:", "localhost:vpcd", "localhost:\u00b2", "localhost:65536")
     for address in (*ports, f"localhost:{2**64}", "localhost:-1", "a" * 70 + ":1"):
         assert main(["--table", table, "--vpcd", address]) == 2

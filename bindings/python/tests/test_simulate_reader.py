@@ -8,7 +8,6 @@ import sys
 from pathlib import Path
 
 import pytest
-from galliumtoad import simulate
 from room import SCRIPT, folder_of_programs
 from test_applications import CARDS, dialogue
 from test_reader import PRIVATE, missing, namespace
@@ -83,9 +82,8 @@ class Desk:
             f'FRIENDLYNAME "Virtual PCD"\nDEVICENAME /dev/null:{self.port}\nLIBPATH {VPCD}\n'
             f"CHANNELID {self.port}\n"
         )
-        source = str(Path(simulate.__file__).parent.parent)
         self.environment = dict(
-            os.environ, PCSCLITE_CSOCK_NAME=str(path / "run" / "pcscd.comm"), PYTHONPATH=source,
+            os.environ, PCSCLITE_CSOCK_NAME=str(path / "run" / "pcscd.comm"),
             PATH=f"{folder_of_programs()}:{os.environ['PATH']}",
         )
         words = [*namespace(), *PRIVATE, path / "run", "pcscd", "--foreground", "--config"]

@@ -74,40 +74,50 @@ ASKED_AGAIN = command(tpdu(10, "00CA005000", "", "", "6C03"),
 CHAIN = command(tpdu(14, "10DA005001", "AA", "", "9000"), tpdu(16, "00DA005001", "BB", "", "6A84"))
 
 
-def test_answers_in_the_order_of_the_capture(replay):
-    """The last one comes again; an unknown command gets 6D00, or another status."""
-    card = replay(RESET, ATR, *COUNTER, SUMMARY)
-    assert card.atr.hex() == "3b021450"
-    asks = ["8010000001"] * 3 + ["8010000101", "80100000"]
-    assert asked(card, *asks) == ["019000", "026283", "026283", "6D00", "6101"]
-    assert asked(replay(*COUNTER, unknown=0x6A82), "80CA000000") == ["6A82"]
+OF_ITS_OWN = [command(tpdu(1, "A0A4000002", "3F00", "", "9F03"),
+                      tpdu(2, "A0C0000003", "", "AABBCC", "9000")),
+              one(3, "A0A4000002", "7F20", "", "9F01"), one(4, "A0C0000001", "", "DD")]
+# The objects of a capture, words of the card, and commands, each with its answer.
+REPLAYS = [
+    # in the order of the capture: the last one comes again
+    ([RESET, ATR, *COUNTER, SUMMARY], {}, "8010000001 019000 8010000001 026283 8010000001 026283 "
+     "8010000101 6D00 80100000 6101"),
+    (COUNTER, {"unknown": 0x6A82}, "80CA000000 6A82"),
+    # parts are joined, and pieces are not
+    ([SELECT, ASKED_AGAIN, CHAIN], {}, "00A4040005A000000003 6104 00C0000004 6F0284009000 "
+     "00CA005003 50014A9000 10DA005001AA 9000 00DA005001BB 6A84 00DA005001CC 6D00 "
+     "00A4040005A00000000300 6F0284009000 00CA005000 50014A9000"),
+    # another Le is the same command: it fetches as much as it asks for, GET RESPONSE the rest
+    ([one(1, "00B0000004", "", "01020304")], {}, "00B0000004 010203049000 00B0000000 010203049000 "
+     "00B0000002 01026102 00C0000002 03049000 00B00000 6104 00C0000000 010203049000"),
+    # a command that is cut off before its status or within it is unknown
+    ([COUNTER[0], one(4, "80200000", "", "02", ""), one(6, "80300000", "", "03", "90")], {},
+     "8010000001 019000 8020000001 6D00 8030000001 6D00"),
+    # a response that was not fetched is zeros, and its status is that of an unknown command
+    *(([one(1, "00A4040005", "A000000003", "", it)], {"unknown": 0x6F00}, "00A4040005A000000003 "
+       "6104 00C0000004 000000006F00 00A4040005A00000000300 000000006F00")
+      for it in ("6104", "6C04")),
+    ([one(1, "00B0000000", "", "AA" * 256, "6100")], {},
+     f"00B0000000 {'AA' * 256}6100 00C0000000 {'00' * 256}6D00"),
+    # a GET RESPONSE of its own, as after 9FXX, where 61XX would announce what waits
+    (OF_ITS_OWN, {}, "A0A40000023F00 9F03 A0C0000003 AABBCC9000 A0A40000027F20 9F01 "
+     "A0C0000001 DD9000 00C0000001 6985 A0C0000000 DD9000 A0C00000 9000"),
+    # digits of either case, and any name first in a line
+    ([one(1, "00a4040002", "abcd", "ef", "9f1c")], {}, "00A4040002ABCD00 EF9F1C"),
+    ([{"line": 1, "type": "reset"}, *COUNTER], {}, "8010000001 019000"),
+]  # fmt: skip
+
+
+@pytest.mark.parametrize(("objects", "more", "dialogue"), REPLAYS)
+def test_what_a_capture_answers(replay, objects, more, dialogue):
+    words = dialogue.split()
+    assert asked(replay(*objects, **more), *words[::2]) == words[1::2]
 
 
 def test_the_first_answer_to_reset_counts(replay):
     other = {"type": "atr", "line": 5, "characters": "3B00"}
     assert replay(ATR, *COUNTER, other, *COUNTER).atr.hex() == "3b021450"
     assert replay(other, *COUNTER, ATR).atr.hex() == "3b00" and replay(*COUNTER).atr == b""
-
-
-def test_parts_are_joined_and_pieces_are_not(replay):
-    card = replay(SELECT, ASKED_AGAIN, CHAIN)
-    assert asked(card, "00A4040005A000000003", "00C0000004", "00CA005003", "10DA005001AA",
-                 "00DA005001BB", "00DA005001CC", "00A4040005A00000000300", "00CA005000") == [
-        "6104", "6F0284009000", "50014A9000", "9000", "6A84", "6D00", "6F0284009000", "50014A9000"]
-
-
-def test_another_le_is_the_same_command(replay):
-    """Le fetches as much as it asks for, and GET RESPONSE the rest."""
-    card = replay(one(1, "00B0000004", "", "01020304"))
-    assert asked(card, "00B0000004", "00B0000000", "00B0000002", "00C0000002", "00B00000",
-                 "00C0000000") == [
-        "010203049000", "010203049000", "01026102", "03049000", "6104", "010203049000"]
-
-
-def test_a_command_that_is_cut_off_before_its_status_or_within_it_is_unknown(replay):
-    cut = one(4, "80200000", "", "02", ""), one(6, "80300000", "", "03", "90")
-    card = replay(COUNTER[0], *cut)
-    assert asked(card, "8010000001", "8020000001", "8030000001") == ["019000", "6D00", "6D00"]
 
 
 def test_data_and_no_data(replay):
@@ -121,28 +131,6 @@ def test_data_and_no_data(replay):
     said = [b"".join(line.take_in(bytes([each])) for each in bytes.fromhex(it))
             for it in ("0020008000", "00200080023132", "80D6000002")]
     assert [it.hex() for it in said] == ["63c3", "209000", "6d00"]
-
-
-@pytest.mark.parametrize("status", ["6104", "6C04"])
-def test_a_response_that_was_not_fetched(replay, status):
-    """It is zeros, and its status is that of an unknown command."""
-    card = replay(one(1, "00A4040005", "A000000003", "", status), unknown=0x6F00)
-    answers = asked(card, "00A4040005A000000003", "00C0000004", "00A4040005A00000000300")
-    assert answers == ["6104", "000000006F00", "000000006F00"]
-    card = replay(one(1, "00B0000000", "", "AA" * 256, "6100"))
-    assert asked(card, "00B0000000", "00C0000000") == ["AA" * 256 + "6100", "00" * 256 + "6D00"]
-
-
-def test_a_get_response_of_its_own(replay):
-    """As after 9FXX, where 61XX would announce what waits."""
-    card = replay(command(tpdu(1, "A0A4000002", "3F00", "", "9F03"),
-                          tpdu(2, "A0C0000003", "", "AABBCC", "9000")),
-                  one(3, "A0A4000002", "7F20", "", "9F01"), one(4, "A0C0000001", "", "DD"))
-    asks = ["A0A40000023F00", "A0C0000003", "A0A40000027F20", "A0C0000001", "00C0000001",
-            "A0C0000000", "A0C00000"]
-    first, *rest = asked(card, *asks)
-    assert first == "9F03" and rest[0] == "AABBCC9000" and rest[1:3] == ["9F01", "DD9000"]
-    assert rest[3] == "6985" and rest[4:] == ["DD9000", "9000"]
 
 
 SESSIONS = [RESET, ATR, one(1, "00200080", "", "", "63C2"), RESET, RESET,
@@ -219,15 +207,6 @@ def test_lines_that_another_program_wrote(tmp_path, line):
     (tmp_path / "capture").write_text("\n".join(lines))
     with pytest.raises(Mistake, match=f"^{tmp_path}/capture: line 3: not of trace_explain --json:"):
         Replay(str(tmp_path / "capture"))
-
-
-def test_digits_of_either_case(replay):
-    card = replay(one(1, "00a4040002", "abcd", "ef", "9f1c"))
-    assert asked(card, "00A4040002ABCD00") == ["EF9F1C"]
-
-
-def test_any_name_may_be_the_first_of_a_line(replay):
-    assert asked(replay({"line": 1, "type": "reset"}, *COUNTER), "8010000001") == ["019000"]
 
 
 def test_a_masked_note_does_not_matter(replay):
@@ -307,20 +286,16 @@ def test_over_vpcd(replay):
 
 
 @pytest.fixture
-def program(tmp_path):
+def program(tmp_path, request):
     """Runs the program with this capture at a pseudo terminal. It has its answer to reset."""
-    made = []
-
     def start(*words):
         lines = [json.dumps(it, separators=(",", ":")) for it in (ATR, *COUNTER, SELECT)]
         (tmp_path / "capture").write_text("\n".join(lines))
-        made.append(AtPty("--replay", tmp_path / "capture", "--no-echo", *words).open())
-        assert made[-1].read(4).hex() == "3b021450"
-        return made[-1]
+        card = AtPty("--replay", tmp_path / "capture", "--no-echo", *words)
+        request.addfinalizer(card.end)
+        return card.open("3B021450")
 
-    yield start
-    for it in made:
-        it.end()
+    return start
 
 
 ASKS = bytes.fromhex("8010000001")

@@ -3,22 +3,18 @@
 import os
 import subprocess
 import sys
-from pathlib import Path
 
-import galliumtoad
 import pytest
-from room import STANDIN
+from room import with_standin
 
 PROGRAMS = ["galliumtoad", *(f"galliumtoad.{it}" for it in ("batch", "simulate", "trials"))]
 
 
 def run(redirected, *words, **more):
     """Runs a program with a redirection of the shell. Returns its status and both outputs."""
-    paths = [str(Path(galliumtoad.__file__).parent.parent), str(STANDIN)]
-    kept = {name: it for name, it in os.environ.items() if name != "PYTHONUNBUFFERED"}
     done = subprocess.run(
         ["sh", "-c", f'exec "$@" {redirected}', "sh", sys.executable, "-m", *words], text=True,
-        env={**kept, "PYTHONPATH": ":".join(paths), "STANDIN": "/"}, timeout=100,
+        env=with_standin(PYTHONUNBUFFERED=""), timeout=100,
         **{"stdout": subprocess.PIPE, "stderr": subprocess.PIPE, **more})
     return done.returncode, done.stdout, done.stderr
 
@@ -29,15 +25,14 @@ def test_a_help_on_a_full_disk(program):
     assert status == 2 and "Exception" not in error and "Traceback" not in error
 
 
-@pytest.mark.parametrize("program", PROGRAMS)
+REFUSED = [*((it, "--nope") for it in PROGRAMS),
+           ("galliumtoad.simulate", "--table", "/none", "--pty")]
+
+
+@pytest.mark.parametrize("words", REFUSED)
 @pytest.mark.parametrize("redirected", ["2>&-", "2>/dev/full", ">/dev/full 2>&1", ">&- 2>&- <&-"])
-def test_words_that_are_refused_without_a_stream_for_it(program, redirected):
-    assert run(redirected, program, "--nope") == (2, "", "")
-
-
-def test_a_fault_is_no_output():
-    faults = run("2>&-", "galliumtoad.simulate", "--table", "/none", "--pty")
-    assert faults == (2, "", "")
+def test_words_that_are_refused_without_a_stream_for_it(words, redirected):
+    assert run(redirected, *words) == (2, "", "")
 
 
 @pytest.mark.parametrize("words", [["--list"], ["--only", "lost at", "--", "true", "{tty}"]])

@@ -9,8 +9,6 @@ import sys
 import time
 from pathlib import Path
 
-from galliumtoad import simulate
-
 SECONDS = 60  # on a busy machine
 
 
@@ -41,14 +39,15 @@ class AtPty:
         self.program = subprocess.Popen(
             [sys.executable, "-m", "galliumtoad.simulate", *words, "--pty"], text=True,
             stdout=subprocess.PIPE, stderr=subprocess.PIPE,
-            env={**os.environ, "PYTHONPATH": str(Path(simulate.__file__).parent.parent)},
             # these tests may run where SIGINT is ignored
             preexec_fn=lambda: signal.signal(signal.SIGINT, signal.SIG_DFL), **more)
         self.name, self.has_echo = self.program.stdout.readline().strip(), "--no-echo" not in words
         self.line, self.said = -1, ()
 
-    def open(self):
+    def open(self, atr="3B00"):
+        """Opens the line, on which this answer to reset comes."""
         self.line = os.open(self.name, os.O_RDWR | os.O_NOCTTY)
+        assert self.read(len(atr) // 2).hex().upper() == atr
         return self
 
     def close(self):

@@ -21,7 +21,7 @@ def main(words: Optional[list[str]] = None) -> int:
     listed = "; ".join(f"{name}: {what}" for name, what in PROGRAMS.items())
     parser.add_argument("program", choices=PROGRAMS, metavar="PROGRAM", help=listed)
     parser.add_argument("words", nargs=argparse.REMAINDER, metavar="..", help="its words or --help")
-    given = parser.parse_args((sys.argv[1:] if words is None else words) or ["--help"])
+    given = parser.parse_args(words or ["--help"])
     return int(importlib.import_module(f"galliumtoad.{given.program}").main(given.words))
 
 

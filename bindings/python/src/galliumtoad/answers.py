@@ -232,10 +232,10 @@ class Atr:
     t1: AtrT1
 
     def __init__(self, data: Bytes) -> None:
-        atr, place = ffi.new("gt_atr *"), ffi.new("size_t *")
-        checked(lib.gt_atr_read(*readable(data), atr, place), place)
+        kept, atr, place = plain(data), ffi.new("gt_atr *"), ffi.new("size_t *")
+        checked(lib.gt_atr_read(kept, len(kept), atr, place), place)
         start, count = atr.historical, atr.historical_count
-        vars(self).update(_numbers(Atr, atr), historical=bytes(data)[start : start + count])
+        vars(self).update(_numbers(Atr, atr), historical=kept[start : start + count])
         protocols = tuple(atr.protocols[0 : atr.protocol_count])
         vars(self).update(protocols=protocols, t1=AtrT1(**_numbers(AtrT1, atr.t1)))
 

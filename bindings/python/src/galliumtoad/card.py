@@ -85,8 +85,9 @@ class Card(Holder):
         calls: list[tuple[Any, ...]] = [("new",)]
         for aid, values in dict(tables).items():
             calls.append(("app", *readable(aid)))
-            calls += [("object", tag_number(tag), *readable(value), (plain(aid), tag) in pairs)
-                      for tag, value in dict(values).items()]
+            for tag, value in dict(values).items():
+                named = plain(aid), tag_number(tag)
+                calls.append(("object", named[1], *readable(value), named in pairs))
         super().__init__("card", *calls, ("finish",))
 
     def tpdu(self, tpdu: Bytes) -> bytes:

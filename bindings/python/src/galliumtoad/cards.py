@@ -101,7 +101,7 @@ class Program(Application):
 
     def __init__(self, command: str) -> None:
         with mistakes(command):
-            self.program = Popen(shlex.split(command), 0, stdin=PIPE, stdout=PIPE)
+            self.program: Any = Popen(shlex.split(command), 0, stdin=PIPE, stdout=PIPE)
         atexit.register(self.program.kill)
 
     def takes_data(self, header: bytes) -> bool:
@@ -120,7 +120,6 @@ class Program(Application):
 
     def ask(self, line: str, form: str = "") -> Sequence[str]:
         """Sends a line. Returns the parts of its answer, which has this form, if it has one."""
-        assert self.program.stdin and self.program.stdout
         out, said, until = self.program.stdout, b"", time.monotonic() + PATIENCE
         try:
             if select.select([out], [], [], 0)[0]:

@@ -77,10 +77,16 @@ def mistakes(what: str, *kinds: type[Exception]) -> Iterator[None]:
 
 def program(main: Callable[[Any], int]) -> Callable[..., int]:
     """Makes a program of its `main`. The exit status is 2 after a `Mistake`, an interrupt, or if a
-    stream can't be written. A closed one is as /dev/null."""
+    stream can't be written. A closed one is as /dev/null. No option has an empty value: some
+    versions of argparse make a list of --OPTION=--."""
     def run(words: Optional[list[str]] = None) -> int:
         sys.stdout, sys.stderr = (it or open(os.devnull, "w") for it in (sys.stdout, sys.stderr))
+        getattr(sys.stdout, "reconfigure", dict)(errors="backslashreplace")  # for names of files
+        words = sys.argv[1:] if words is None else words
         try:
+            for word in words[: [*words, "--"].index("--")]:
+                if re.fullmatch("(-[^=]+=(--)?)?", word):
+                    raise Mistake(f"an empty value: '{word}'")
             return main(words)
         except (Mistake, OSError, KeyboardInterrupt) as why:
             print(str(why).translate(CONTROLS) or "interrupted", file=sys.stderr)
@@ -103,7 +109,6 @@ class Fault(NamedTuple):
     kind: str
     values: list[Any]
     place: str
-    change: Callable[..., Any]
 
 
 def number(text: str) -> Any:
@@ -132,7 +137,7 @@ def read(text: str, name: str = "faults") -> list[Fault]:
             wrong = f"{place}not WHEN, WHAT of a fault: {words}\n"
             when, [number] = matched(WHENS, at, f"{wrong}WHEN")
             kind, values = matched(KINDS, does, f"{wrong}WHAT")
-            found.append(Fault(place + words, when, number, kind, values, *KINDS[kind]))
+            found.append(Fault(place + words, when, number, kind, values, KINDS[kind][0]))
     return found
 
 
@@ -149,10 +154,9 @@ def flipped(data: bytes, *bits: int) -> bytes:
 
 
 class Faults:
-    """Which faults strike. `tell` gets a line for each that does. No fault strikes, and no command
-    counts, before one that begins with the bytes `since`, as far as they are known.
-    `command N` counts commands from 1, without GET RESPONSE and a repetition after 6CXX: these are
-    of the same command. What changes data waits while a response without data is 61XX or 6CXX."""
+    """Which faults strike, a line each for `tell`. None does, and no command counts, before one
+    that begins with the bytes `since`, as far as they are known. GET RESPONSE, or again after 6CXX,
+    is the same command. What changes data waits while a response without data is 61XX or 6CXX."""
 
     def __init__(self, found: Iterable[Fault] = (), seed: int = 0,
                  tell: Callable[[str], None] = print, since: bytes = b"") -> None:
@@ -194,7 +198,7 @@ class Faults:
         """What the chosen faults of these kinds or places make of a value, in the order of their
         lines. Prints those that strike. One that changes nothing does not."""
         for it in [it for it in self.due if it.kind in which or it.place in which]:
-            if (new := it.change(value, *it.values)) != value:
+            if (new := KINDS[it.kind][1](value, *it.values)) != value:
                 value = new
                 self.due.remove(it)
                 self.struck.append(it.kind)

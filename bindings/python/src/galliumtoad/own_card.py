@@ -1,7 +1,7 @@
 """`OwnCard`, a card of an `Application` of your own."""
 
 from abc import ABC, abstractmethod
-from typing import Any, Callable, NamedTuple
+from typing import Callable, NamedTuple
 
 from ._library import ffi, lib
 from .errors import checked

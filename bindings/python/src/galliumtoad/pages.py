@@ -32,8 +32,8 @@ def begin(title: str) -> str:
     >>> begin("Trials").endswith("<h1>Trials</h1>\\n")
     True
     """
-    return ('<!DOCTYPE html><html lang="en"><meta charset="utf-8">\n'
-            '<meta name="viewport" content="width=device-width, initial-scale=1">\n'
+    return ('<!DOCTYPE html><html lang="en"><meta charset="utf-8"/>\n'
+            '<meta name="viewport" content="width=device-width, initial-scale=1"/>\n'
             f"<title>{title}</title>\n<style>\n{STYLE}</style><h1>{title}</h1>\n")
 
 

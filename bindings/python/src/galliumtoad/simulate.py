@@ -350,7 +350,7 @@ def parser() -> argparse.ArgumentParser:
     add("--reset", choices=SIGNALS, default="", help="with --tty: the line that holds the card in "
         "reset while it is on; without it the only reset is the start")
     add("--unknown", metavar="SW", type=status_of, default="6D00",
-        help="with --replay: the status of a command that it lacks and the application gets; 6D00")
+        help="with --replay: the status of a command that the capture lacks; without it 6D00")
     add("--strict", action="store_true", help="with --replay: ends at another command")
     return it
 
@@ -362,8 +362,7 @@ def main(words: Optional[list[str]] = None) -> int:
     own = Replay(given.replay, given.unknown, given.strict) if given.replay else given.own
     card, atr = given.table or (OwnCard(own), getattr(own, "atr", b"") or LEAST_ATR)
     text = mistakes(given.faults)(Path(given.faults or os.devnull).read_text)("utf-8-sig")
-    faults = Faults(read(text, given.faults), given.seed)
-    it = Simulator(card, given.atr or atr, faults, given.v)
+    it = Simulator(card, given.atr or atr, Faults(read(text, given.faults), given.seed), given.v)
     try:
         with contextlib.suppress(KeyboardInterrupt), it:
             if given.vpcd:

@@ -1,5 +1,4 @@
-"""Trials for terminals: a job with a card, once for each fault in `trials.txt`, is judged by what
-the card holds and the terminal said. `python3 -m galliumtoad.trials --help` shows the program."""
+"""Judges terminals by a job with a card, once for each fault in `trials.txt`."""
 
 import argparse
 import json
@@ -55,8 +54,7 @@ class Trial:
         return Faults(read(self.faults.replace("; ", "\n"), self.name), since=since)
 
     @property
-    def places(self) -> set[str]:
-        """Where its faults can happen."""
+    def places(self) -> set[str]:  # where its faults can happen
         return {it.place for it in self.read().all}
 
 
@@ -86,7 +84,7 @@ class Run(Simulator):
         printed = WORDS["value"] in re.sub(r"[^0-9A-F]", "", output.upper())
         if status is None:
             return "hung"
-        if status < 0 or status > 128:
+        if status < 0 or 128 < status < 128 + signal.NSIG:  # a shell adds 128 to a signal
             return "crashed"
         if status == 0 and not (held.get(TAG) == VALUE and printed):
             return "wrong"
@@ -121,7 +119,7 @@ def tried(trial: Trial, given: argparse.Namespace) -> None:
             os.killpg(program.pid, signal.SIGKILL)
         trial.seconds = round(time.monotonic() - begun, 1)
         run.is_over.set()
-        thread.join()
+        thread.join(5)  # it may write to a line that nobody reads
         time.sleep(GONE_AFTER if line else 0)
     text = output.decode("ascii", "backslashreplace")
     lines = [it for it in text.splitlines() if WORDS["value"] not in it] or [""]
@@ -140,7 +138,7 @@ def parser() -> argparse.ArgumentParser:
                                  description="Lets a terminal do a job with cards that misbehave.")
     it.add_argument("--vpcd", default=VPCD, metavar="HOST:PORT", help=f"for {{reader}}; {VPCD}")
     it.add_argument("--reader", default="Virtual PCD 00 00", help="{reader}; else %(default)s")
-    it.add_argument("--protocol", choices=["0", "1"], default="0", help="T if both fit; 0")
+    it.add_argument("--protocol", choices=["0", "1"], default="0", help="T if both fit; default 0")
     it.add_argument("--limit", type=number, default=60, metavar="S",
                     help="seconds for a job, 0.1 to 86400; without it 60")
     it.add_argument("--only", metavar="WORD", default="", help="runs those with WORD in their name")

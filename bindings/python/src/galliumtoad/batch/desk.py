@@ -82,7 +82,7 @@ class Desk:
     def __init__(self, rows: Rows, journal: Journal, given: argparse.Namespace) -> None:
         self.rows, self.journal, self.given = rows, journal, given
         self.stopped, self.keys, self.faults = threading.Event(), 0, list[str]()
-        self._failures, self._alone, self._bar, self._interrupts = count(1), threading.Lock(), "", 0
+        self._failures, self._alone, self._bar, self.interrupts = count(1), threading.Lock(), "", 0
         self._begun, self._done_before = time.monotonic(), journal.count("done")
         self._looked, self._reported, self._is_told = 0.0, -1, False
 
@@ -115,25 +115,24 @@ class Desk:
         try:
             for it in readers:
                 it.start()
-            while any(it.is_alive() for it in readers) and self._interrupts < 2:
+            while any(it.is_alive() for it in readers) and self.interrupts < 2:
                 self._turn()
         finally:
             signal.signal(signal.SIGINT, before)
             self.stopped.set()
             for it in readers:
-                if self._interrupts < 2:
+                if self.interrupts < 2:
                     it.join()
                 elif it.row and self.journal.state(it.row) == "unsure":  # another may begin still
                     it.give_up()
             print(self._bar and WIPE, end="", flush=True)
 
-    def _interrupt(self, *_: object) -> None:
-        self._interrupts += 1
-        self.stopped.set()
+    def _interrupt(self, *_: object) -> None:  # may come within itself, so it takes no lock
+        self.interrupts += 1
 
     def _turn(self) -> None:
         """Writes the report and draws the bar, if it is time. Waits a little, or for Enter."""
-        if self._interrupts and not self._is_told:
+        if self.interrupts and not self._is_told:
             self._is_told = True
             self.say("stops after the cards in progress; Ctrl-C again stops at once")
         if time.monotonic() >= self._looked + PAUSE:
@@ -173,10 +172,11 @@ class Reader(threading.Thread):
         while self._may_continue():
             try:
                 self.reader, is_here = chosen([self.part])[self.part], True
-                with socket.socket(socket.AF_UNIX) as mark:
+                with socket.socket(socket.AF_UNIX) as mark, contextlib.ExitStack() as ends:
                     # The name of a socket is short. A reader's name ends in its number.
                     mark.bind(b"\0galliumtoad.batch " + os.fsencode(self.reader)[-80:])
-                    self._serve(context())
+                    ends.callback(scard.SCardReleaseContext, made := context())
+                    self._serve(made)
             except Gone as error:
                 if is_here:
                     self._say(f"the reader is gone: {sentence(error)}")
@@ -199,8 +199,9 @@ class Reader(threading.Thread):
         self.row = None
 
     def _may_continue(self) -> bool:
-        is_over = self.desk.stopped.is_set() or self.failures >= FAILURES_IN_A_ROW
-        return not is_over and (self.row is not None or self.journal.count("free") > 0)
+        if self.desk.stopped.is_set() or self.desk.interrupts or self.failures >= FAILURES_IN_A_ROW:
+            return False
+        return self.row is not None or self.journal.count("free") > 0
 
     def _say(self, what: str) -> None:
         self.desk.say(f"{self.reader}: {what}")
@@ -266,9 +267,8 @@ class Reader(threading.Thread):
         self.row = None
         if own != row and self.journal.state(own) == "free":
             return own
-        card, seconds = self.journal.rows[row].card, time.monotonic() - begun
-        about = f"row {row} {word}{card and f', card {card}'}, {seconds:.1f} s"
-        self._say(about + (reason and f": {reason}"))
+        card, took = self.journal.rows[row].card, f"{time.monotonic() - begun:.1f} s"
+        self._say(f"row {row} {word}{card and f', card {card}'}, {took}{reason and f': {reason}'}")
         if own == row:
             self.failures = 0 if word == "done" else self.failures + 1
         if word in ("failed", "unsure"):

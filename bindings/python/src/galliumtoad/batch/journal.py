@@ -189,7 +189,8 @@ class Journal:
         with self._alone:
             fcntl.lockf(self._file, fcntl.LOCK_EX, 1, 0)
             try:
-                if not os.path.samestat(os.stat(self.path), os.fstat(self._file)):
+                here = os.stat(self.path)
+                if not os.path.samestat(here, os.fstat(self._file)) or here.st_size < self._read:
                     raise ValueError(f"{self.path} was replaced: look what the last cards hold")
                 self._catch_up()
                 yield

@@ -12,8 +12,8 @@ from .journal import Heading, Journal, create, place_of, refuse_a_second
 from .script import Rows, check_of, steps_of, tag
 
 _ABOUT = "Personalises cards by the hundred: each card that is inserted gets one row of a table."
-_HELP = """In a script `@{column}` is a column's text, `{column}` its digits: put 5F20 @{name}. The
-first of these is done, and no other: --status, --done and --again; --check; --look; a run."""
+_HELP = """In a script `@{column}` is a column's text, `{column}` its digits: put 5F20 @{name}. Of
+these only the first in this list is done: --status, --done and --again; --check; --look; a run."""
 _SHOWN = 20  # mistakes
 
 
@@ -140,7 +140,6 @@ def work(given: argparse.Namespace) -> int:
 @program
 def main(words: Optional[list[str]] = None) -> int:
     """Runs the program. Returns its exit status."""
-    getattr(sys.stdout, "reconfigure", dict)(errors="backslashreplace")  # for names of readers
     given = parsed(words)
     try:
         return work(given)

@@ -125,12 +125,23 @@ class Clause:
         return value
 
 
+class Record(dict):
+    """A value of a record. Nothing changes it, so its hash is computed once."""
+
+    hashed = None
+
+    def __hash__(self):
+        if self.hashed is None:
+            self.hashed = hash(tuple(self.values()))
+        return self.hashed
+
+
 class Definitions:
     """All clauses of these files, as functions of Python. `fixed` replaces a definition by a
     value."""
 
     def __init__(self, texts, fixed):
-        clauses, self.fixed, self.functions = {}, {**NAMES, **fixed}, {}
+        clauses, self.fixed, self.functions = {}, {**NAMES, **fixed}, {"Record": Record}
         for text in texts:
             for chunk in re.split(r"\n(?=\S)", re.sub(r"--[^\n]*", "", text)):
                 if not re.match(r"(use|abbrev|pub|data)\b", chunk) and chunk.strip():
@@ -168,7 +179,7 @@ class Definitions:
         if kind == "record":
             base = [f"**{self.text(rest[0], names)}"] if rest[0] else []
             fields = [f"{name!r}: {self.text(it, names)}" for name, it in rest[1].items()]
-            return f"{{{', '.join(base + fields)}}}"
+            return f"Record({{{', '.join(base + fields)}}})"
         if kind == "call":
             return self.called(rest[0], [self.text(it, names) for it in rest[1]], names)
         parts = [self.text(it, names) for it in rest]

@@ -10,6 +10,7 @@ delivers a block, damages it ('bad': the LRC shows it), loses it (the terminal: 
 nothing), delays it until after the terminal's time-out, or doubles it."""
 
 import graphlib
+import sys
 from collections import namedtuple
 
 # The terminal.
@@ -17,14 +18,15 @@ from collections import namedtuple
 # - k: the command; i: its block
 # - air: the last block of the command may have reached the card
 # - res: the results so far, one for each command
-T = namedtuple('T', 'mode k i got ns nr fails resy wtx air ifsd res')
+T = namedtuple('T', 'mode k i got ns nr fails resy wtx air ifsd res beside')
 # The card.
 # - vr: the next N(S) of the terminal; vs: N(S) of the card's next I-block
 # - coll: the received part of a command
 # - ans: the blocks of the response (None: none yet); j: the latest sent
 # - pend: the card's S(request) that waits for its response; busy: WTX requests still to make
 # - ran: the commands that were carried out
-C = namedtuple('C', 'vr vs coll ans j pend busy ifsd ran')
+# `beside`, of both ends, is the state of another end that makes the same steps, if any.
+C = namedtuple('C', 'vr vs coll ans j pend busy ifsd ran beside')
 # The commands, each by the number of its blocks and that of its response's symbols. Then
 # - limit: the terminal gives up after n receptions without progress
 # - wtx_limit: the most S(WTX request) of a command; wtx_asks: those that the card makes
@@ -40,10 +42,11 @@ C = namedtuple('C', 'vr vs coll ans j pend busy ifsd ran')
 # - timeout_i: it repeats its I-block after a time-out
 # - goes_on: it begins the next command even after it has given up
 # - tests_ns: the card tests N(S) of an I-block
+# `ends` has the functions `terminal`, `card` and `breaches`.
 Cfg = namedtuple('Cfg', """cmds limit wtx_limit wtx_asks most card_ifs budget late double_down
-    double_up nak_counts resends sticky timeout_i goes_on tests_ns""")
+    double_up nak_counts resends sticky timeout_i goes_on tests_ns ends""")
 RIGHT = Cfg(None, 5, 4, 1, 100, False, None, False, False, False, True, False, True, False, False,
-            True)
+            True, sys.modules[__name__])
 
 SMALL, LARGE = 1, 2          # information field sizes, in symbols
 
@@ -58,7 +61,7 @@ def cut(symbols, size):
     return tuple(symbols[a:a + size] for a in range(0, len(symbols), size)) or ((),)
 
 # ---- the terminal
-FIRST_T = T('start', 0, 0, (), 0, 0, 0, 0, 0, False, SMALL, ())
+FIRST_T = T('start', 0, 0, (), 0, 0, 0, 0, 0, False, SMALL, (), None)
 
 def sends_i(cfg, t):
     cmd = command(cfg, t.k)
@@ -140,7 +143,7 @@ def terminal(cfg, t, e):
     return (*no_progress(cfg, t, error), False)
 
 # ---- the card
-FIRST_C = C(0, 0, (), None, 0, None, 0, SMALL, ())
+FIRST_C = C(0, 0, (), None, 0, None, 0, SMALL, (), None)
 
 def c_iblock(c):
     return ('I', 1 - c.vs, int(c.j < len(c.ans) - 1), c.ans[c.j])
@@ -158,7 +161,8 @@ def card(cfg, c, b):
         return c_again(c, 1)
     if b[0] == 'S':
         if b[1] == 'RESYNCH' and b[2] == 'q':
-            return FIRST_C._replace(busy=cfg.wtx_asks, ran=c.ran), ('S', 'RESYNCH', 'p', 0)
+            fresh = FIRST_C._replace(busy=cfg.wtx_asks, ran=c.ran, beside=c.beside)
+            return fresh, ('S', 'RESYNCH', 'p', 0)
         if b[1] == 'IFS' and b[2] == 'q':
             return c._replace(ifsd=b[3]), ('S', 'IFS', 'p', b[3])
         if b[2] == 'p' and c.pend and b[1] == c.pend[1]:
@@ -222,6 +226,7 @@ def nexts(cfg, state):
     """The states after this one. A state is terminal, card, block for the card or None, blocks for
     the terminal (at most two), and the number of bad blocks left."""
     t, c, down, queue, bud = state
+    terminal, card = cfg.ends.terminal, cfg.ends.card
     may = cfg.budget is None or bud > 0
     less = bud - 1 if cfg.budget is not None else 0
 
@@ -257,7 +262,7 @@ def nexts(cfg, state):
 
 def search(cfg, most=400000):
     """The claims that some dialogue breaks."""
-    t, out, _ = terminal(cfg, FIRST_T, 'start')
+    t, out, _ = cfg.ends.terminal(cfg, FIRST_T, 'start')
     graph, todo = {}, [(t, FIRST_C, out, (), cfg.budget or 0)]
     while todo:
         state = todo.pop()
@@ -266,7 +271,7 @@ def search(cfg, most=400000):
             todo += graph[state]
             if len(graph) > most:
                 raise ValueError('too many states')
-    found = {it for t, c, *_ in graph for it in breaches(cfg, t, c)}
+    found = {it for t, c in {state[:2] for state in graph} for it in cfg.ends.breaches(cfg, t, c)}
     # (iv) a cycle: the dialogue never ends
     try:
         graphlib.TopologicalSorter(graph).prepare()

@@ -1,36 +1,31 @@
-//! A card that sends back each command, and records what it carried out.
+//! A card that sends back each command.
 
-use std::alloc::{AllocError, Global};
+use std::alloc::AllocError;
 use t1_core::{Applet, Requests};
 
 /// A card that sends back each command of at most `LIMIT` bytes. To a longer one it responds
-/// `6700`, and records it as an empty one. The first, third, fifth and so on wait twice: before the
-/// response it asks for 3 times BWT. At each third command it announces IFSC 20.
+/// `6700`. The first, third, fifth and so on wait twice: before the response it asks for 3 times
+/// BWT. At each third command it announces IFSC 20.
 #[derive(Drop)]
 pub struct Echo<const LIMIT: usize> {
-    alloc: Global,
-    /// The commands that it carried out, the latest last.
-    pub ran: Vec<Vec<u8>>,
+    /// The number of commands that it carried out.
+    count: usize,
 }
 
 impl<const LIMIT: usize> Echo<LIMIT> {
     /// Makes a card that has carried out nothing.
-    pub fn new(alloc: Global) -> Echo<LIMIT> {
-        Echo {
-            alloc,
-            ran: Vec::new(alloc),
-        }
+    pub fn new() -> Echo<LIMIT> {
+        Echo { count: 0 }
     }
 
-    /// Records a command, and returns the requests before its response.
-    fn record(&mut self, command: &[u8]) -> Result<Requests, AllocError> {
-        self.ran.push(command.to_vec(self.alloc)?)?;
-        let count = self.ran.len();
-        Ok(Requests {
-            extensions: (count % 2 * 2) as u8,
+    /// Counts a command, and returns the requests before its response.
+    fn requests(&mut self) -> Requests {
+        self.count += 1;
+        Requests {
+            extensions: (self.count % 2 * 2) as u8,
             multiple: 3,
-            size: if count % 3 == 0 { Some(20) } else { None },
-        })
+            size: if self.count % 3 == 0 { Some(20) } else { None },
+        }
     }
 }
 
@@ -53,12 +48,12 @@ impl<const LIMIT: usize> Applet for Echo<LIMIT> {
     ) -> Result<Requests, AllocError> {
         response.clear();
         response.extend_from_slice(command)?;
-        self.record(command)
+        Ok(self.requests())
     }
 
     fn too_long(&mut self, response: &mut Vec<u8>) -> Result<Requests, AllocError> {
         response.clear();
         response.extend_from_slice(&[0x67, 0x00])?;
-        self.record(&[])
+        Ok(self.requests())
     }
 }

@@ -36,7 +36,7 @@ fn command(rt: &(impl Abort + AllocGlobal), number: usize) -> Vec<u8> {
 fn ends_and_a_tap_last(rt: HostRuntime) {
     let alloc = rt.alloc();
     let mut terminal = TerminalEnd::new(alloc, settings(&rt));
-    let mut card = BlockCard::new(alloc, Card::new(alloc));
+    let mut card = BlockCard::new(alloc, Card::new());
     let (mut tap, mut gathered) = (Tap::new(Edc::Lrc), Gathered::new(alloc));
     for number in 0..CALLS {
         assert!(&rt;
@@ -60,7 +60,7 @@ fn ends_and_a_tap_last(rt: HostRuntime) {
 
 #[test]
 fn commands_are_carried(rt: HostRuntime) {
-    let mut ends = Ends::new(rt.alloc(), Card::new(rt.alloc()), settings(&rt));
+    let mut ends = Ends::new(rt.alloc(), Card::new(), settings(&rt));
     let mut line = Quiet::new(rt.alloc());
     for number in 0..CALLS {
         let carried = ends.carry(&mut line, &command(&rt, number));
@@ -75,7 +75,7 @@ fn a_list_of_commands_is_carried(rt: HostRuntime) {
         commands.push(command(&rt, number)).expect(&rt, "memory");
     }
     let mut line = Quiet::new(rt.alloc());
-    let card = Card::new(rt.alloc());
+    let card = Card::new();
     let ended = converse(rt.alloc(), card, &mut line, settings(&rt), &commands);
     assert!(&rt; ended.expect(&rt, "memory").answers.len() == CALLS);
 }

@@ -38,7 +38,7 @@
   - bare.cases: commands without data whose card repeats INS.
   - unsigned.cases: lines without signs; logs.cases: logs of whole TPDUs.
   - loose.cases: headers and commands that a mask hides.
-  - forms.cases: forms of logs of many programs; commands.cases: TPDUs that are joined.
+  - forms.cases: forms of logs of many programs, said and found; commands.cases: joined TPDUs.
   - json.cases: objects of JSON, with the last one; blocks.cases: blocks of T=1.
   - names.cases: names of objects, and their values in words.
 
@@ -48,8 +48,9 @@ a line that begins with `#` is a comment."""
 import os
 import re
 import subprocess
+import tempfile
 from collections import Counter
-from dataclasses import dataclass, field
+from dataclasses import dataclass, field, replace
 from itertools import chain, cycle, islice, zip_longest
 from pathlib import Path
 
@@ -75,8 +76,9 @@ ODD = re.compile(rb"\\x([0-9A-F]{2})")
 # The program's signs, the longer ones first. A line has one after an optional time or count.
 FORMS = (HERE.parents[1] / "crates/trace_explain/src/read/forms.rt").read_text(encoding="utf-8")
 OF_CHARACTERS = FORMS.partition(": commands")[0]
-# The options of a log of whole commands.
-OF_LOGS = {"--tpdu", *re.findall(r"^form (\S+): commands$", FORMS, re.M)}
+# The forms of whole commands, and the options of a log of them.
+OF_FORMS = re.findall(r"^form (\S+): commands$", FORMS, re.M)
+OF_LOGS = {"--tpdu", *OF_FORMS}
 SIGNS = re.findall(r"^(?:command|answer): (.+) \{bytes\}$", OF_CHARACTERS, re.M)
 ANY_SIGN = "|".join(sorted(map(re.escape, SIGNS), key=len, reverse=True)).encode()
 SIGNED = re.compile(
@@ -152,6 +154,15 @@ class Case:
         wide = [it for it in out.splitlines() if is_text and len(it) > 100]
         wide = [it for it in wide if len(without_words(it)) > 100]
         return f"{self.name}: more than 100 columns: {wide[0]!r}" if wide else ""
+
+    def statuses(self):
+        """The allowed exit statuses. Cases with a secret test the output alone. The form that was
+        found is no fault."""
+        if self.secret:
+            return 0, 1
+        differ = "--diff" in self.words and "alike: " not in "".join(self.wanted)
+        is_fault = any(not line.startswith("form: ") for line in self.error.splitlines())
+        return (1,) if is_fault or differ else (0,)
 
     def leak(self, out, err):
         """The line that shows a byte of the secret, as digits or as text, or an empty text."""
@@ -610,6 +621,17 @@ def unsigned_cases(signed):
             )
 
 
+def found_cases(cases):
+    """The same logs without `--form`, since their first lines show it: as they are, and in lines
+    with CR and LF."""
+    for case in cases:
+        form = " ".join(case.words).removeprefix("--form ")
+        if form in OF_FORMS and not case.error:
+            for end in (b"\n", b"\r\n"):
+                yield replace(case, name=f"{case.name}, found, {end}", words=[],
+                              given=case.given.replace(b"\n", end), error=f"form: {form}\n")
+
+
 def there(path):
     """The text of a file, or an empty text if it does not exist."""
     return path.read_text(encoding="utf-8") if path.exists() else ""
@@ -633,9 +655,10 @@ def tables():
 
 
 def rows_and_stories():
-    """The cases of the tables, and whole sessions. Those with signs are also tried without."""
+    """The cases of the tables, and whole sessions. Those with signs are also tried without, and
+    logs without the name of their form."""
     signed = table_cases()
-    return [*signed, *unsigned_cases(signed)]
+    return [*signed, *unsigned_cases(signed), *found_cases(signed)]
 
 
 def table_cases():
@@ -675,12 +698,18 @@ def some(cases):
     return list(cases)[:: 20 if os.environ.get("CHECKS_BRIEF") else 1]
 
 
-def run_of(program, case, folder):
-    """Runs a program on a case."""
-    words = [program, *case.words]
-    if "--diff" in words:
-        place = words.index("--diff") + 1
-        words[place:place] = [str(folder / "a"), str(folder / "b")]
-        (folder / "a").write_bytes(case.given)
-        (folder / "b").write_bytes(case.other)
-    return subprocess.run(words, input=case.given, capture_output=True, check=False)
+def refusal(program, case, seconds=None, **names):
+    """What is wrong with a program's run on a case, or an empty text. `names` are added to the
+    environment."""
+    with tempfile.TemporaryDirectory() as folder:
+        words = [program, *case.words]
+        if "--diff" in words:
+            place = words.index("--diff") + 1
+            words[place:place] = [f"{folder}/a", f"{folder}/b"]
+            Path(folder, "a").write_bytes(case.given)
+            Path(folder, "b").write_bytes(case.other)
+        run = subprocess.run(words, input=case.given, capture_output=True, check=False,
+                             timeout=seconds, env={**os.environ, **names})
+    said = case.fault(run.stdout.decode(errors="replace"), run.stderr.decode(errors="replace"))
+    return said or ("" if run.returncode in case.statuses() else
+                    f"{case.name}: status {run.returncode}")

@@ -21,6 +21,7 @@ def traces():
     yield behind_notes()
     yield passed_over(250)
     yield alike()
+    yield from long_logs()
     yield dropped_chains(16, "50 3132  application label \"12\"")
     yield dropped_chains(17, "**")
 
@@ -50,6 +51,21 @@ def log_answers():
     part = together("".join(lines), "")[1:]
     part = [f"| {line.strip()}" for line in ["a part of an answer:", *part]]
     yield "a dump too long", ["--tpdu"], [*command, head, *dump, "00 " * 16], part + title, error
+
+
+def long_logs():
+    """Logs whose form follows from the first 64 lines. Those end with an answer, in an answer, and
+    before the first answer."""
+    given = ["-> 00CA5F2003", "<- 9000: 4a4f45", *["-> 00CA5F2000", "<- 6a88:"] * 100]
+    titles = [f"#{it + 1} GET DATA of 5F20  (line {2 * it + 1})" for it in range(101)]
+    yield "a long log", [], given, titles, "form: pysim\n"
+    answer = " <= 41 42 43 44 45 46 47 48 49 41 42 43 44 45 46 47"
+    for notes, count in ((2, 30), (63, 1)):
+        given = ["cm"] * notes + [" => 00 CA 5F 22 12", answer, "    48 49 90 00"] * count
+        given = [f"{line:63}" for line in given]
+        titles = [f"#{it + 1} GET DATA of 5F22  (line {3 * it + notes + 1})" for it in range(count)]
+        shown = [f"| {line}" for line in given[:notes]]
+        yield f"a head with {notes} notes", [], given, [*shown, *titles], "form: jcshell\n"
 
 
 def titles_of(made):

@@ -19,7 +19,7 @@ def owner(text, place):
     return found[-1] if found else None
 
 
-def that_require(path, text):
+def that_require(text):
     """Yields line, type (None without one) and name of each."""
     for it in FUNCTION.finditer(text):
         end = re.compile(rf"(?m)^{it['margin']}(?:\{{$|\}}|pub |fn )|\{{$").search(text, it.end())
@@ -42,7 +42,7 @@ def findings(repository):
     for path, text in texts.items():
         crate = crate_of(path)
         above = {it for it, below in repository.below.items() if it == crate or crate in below}
-        for line, of, name in that_require(path, text):
+        for line, of, name in that_require(text):
             if not any(is_called(crate, of, name, crate_of(it), texts[it])
                        for it in texts if crate_of(it) in above):
                 what = f"no proved code calls {f'{of}::' if of else ''}{name}"

@@ -11,7 +11,6 @@ from contextlib import contextmanager
 from dataclasses import dataclass, field
 from pathlib import Path
 
-import terminal_cases
 from lines import Line, Other, play, trace_of
 from programs import SECONDS, TABLE, Late, Program
 from terminal_cases import GET_WORDS, SELECT_WORDS, look, rate_of, refuses
@@ -405,15 +404,10 @@ def words():
         refuses("serial_card", given, fault, 1)
 
 
-def helps():
-    """A card's help fits a terminal. Its version is that of the header."""
-    terminal_cases.helps("serial_card", "TTY TABLE")
-
-
 def tests():
     """Each test of this part: its title, and a function that raises an error if it fails."""
     yield from ((case.title, lambda case=case: run(case)) for case in all_cases())
     for test in (wrong_echo, is_slow, rate_after_response, puts_back, opening_is_the_reset,
                  quick_reopening, mute_and_reopened, gives_the_echo, is_not_read, mute_until_reset,
-                 tables, warns, closed_descriptors, full_device, words, helps):
+                 tables, warns, closed_descriptors, full_device, words):
         yield (f"card: {test.__name__}", test)

@@ -1,7 +1,6 @@
 """Runs gt_serial and serial_card, for the tests of both."""
 
 import os
-import re
 import select
 import subprocess
 import threading
@@ -16,12 +15,6 @@ SECONDS = 30
 # The running programs, and whether no other may begin.
 RUNNING = set()
 IS_OVER = threading.Event()
-
-
-def version():
-    """The version of the header."""
-    header = (TOP / "bindings/c/include/galliumtoad.h").read_text(encoding="utf-8")
-    return ".".join(re.findall(r"^#define GT_VERSION_(?:MAJOR|MINOR|PATCH) (\d+)$", header, re.M))
 
 
 class Late(AssertionError):

@@ -55,14 +55,14 @@ class Objects:
 
 
 class Card:
-    """The card's end: it answers each block with one block. It asks for more time `extensions`
-    times before each response. With `narrow` it is a card by EMV 4.3, Book 1, 9.2.4: its R-blocks
-    name the error, and it answers no more than three wrong blocks in a row."""
+    """The card's end: it answers each block with one block. It asks for more time before each
+    response. It is a card by EMV 4.3, Book 1, 9.2.4: its R-blocks name the error, and it answers no
+    more than three wrong blocks in a row."""
 
-    def __init__(self, objects, extensions=0, narrow=False):
-        self.objects, self.extensions, self.narrow, self.wrong = objects, extensions, narrow, 0
+    def __init__(self, objects):
+        self.objects, self.wrong = objects, 0
         self.due = self.next = 0
-        self.ifsd, self.asked = 32, 0
+        self.ifsd, self.asked = 32, False
         self.command, self.response, self.sent = b"", None, b""
 
     def again(self):
@@ -74,26 +74,17 @@ class Card:
         self.next ^= 1
         return self.sent
 
-    def begin(self):
-        if self.asked:
-            return self.again()
-        return self.field()
-
     def take(self, data):
         self.wrong = 0 if is_valid(data) else self.wrong + 1
-        if self.narrow and self.wrong:
+        if self.wrong:
             return b"" if self.wrong > 3 else block(0x81 | self.due << 4)
-        if not is_valid(data):
-            return self.again()
         pcb, info = data[1], data[3:-1]
         if pcb == 0xC1:
             self.ifsd = info[0]
             return block(0xE1, info)
         if self.asked:
-            if pcb == 0xE3 and info == b"\x01":
-                self.asked -= 1
-                return self.begin()
-            return self.again()
+            self.asked = pcb != 0xE3 or info != b"\x01"
+            return self.again() if self.asked else self.field()
         if pcb < 0x80 and pcb >> 6 == self.due and not self.response:
             self.due ^= 1
             self.command += info
@@ -101,8 +92,8 @@ class Card:
             if pcb & 0x20:
                 return self.again()
             self.response, self.command = self.objects.carry_out(self.command), b""
-            self.asked = self.extensions
-            return self.begin()
+            self.asked = True
+            return self.again()
         if pcb & 0xC0 == 0x80:
             if pcb >> 4 & 1 == self.next and self.response:
                 return self.field()

@@ -372,7 +372,7 @@ def over(talk, noise, slack):
     the program, and the commands that the stand-in has carried out."""
     line = Line()
     objects = t1_card.Objects()
-    play = t1_card.Play(line, LONG, t1_card.Card(objects, 1, True), noise, 0, 0.3)
+    play = t1_card.Play(line, LONG, t1_card.Card(objects), noise, 0, 0.3)
     try:
         program = Program("gt_serial", [*FAST, slack, line.name, *talk.words])
         play.start()

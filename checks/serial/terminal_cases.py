@@ -12,7 +12,7 @@ from contextlib import contextmanager
 from dataclasses import dataclass, field
 
 from lines import Line, Other, play, trace_of
-from programs import Program, in_time, must_end, version
+from programs import Program, in_time, must_end
 
 USAGE = (
     "\nUsage: gt_serial [OPTIONS] TTY [OPERATION..]\n"
@@ -813,10 +813,10 @@ def closed_descriptors():
     look(program, program.end(), "", "read fault: '-': Bad file descriptor\n", 1)
 
 
-def refuses(name, given, fault, status, output=""):
+def refuses(name, given, fault, status):
     """The program ends at once with these words."""
     program = Program(name, given)
-    look(program, program.end(), output, fault, status)
+    look(program, program.end(), "", fault, status)
 
 
 def words():
@@ -863,18 +863,6 @@ def words():
         refuses("gt_serial", given, fault, 1)
 
 
-def helps(name="gt_serial", usage="TTY [OPERATION..]"):
-    """The help fits a terminal and names each option. The version is that of the header."""
-    for word in ("-h", "--help"):
-        program = Program(name, [word])
-        assert program.end() == 0 and program.faults == "", program.faults
-        lines = program.output.splitlines()
-        assert max(map(len, lines)) <= 80, "a line of more than 80 columns"
-        assert f"Usage: {name} [OPTIONS] {usage}" in lines, lines[:4]
-    for word in ("-V", "--version"):
-        refuses(name, [word], "", 0, f"{name} {version()}\n")
-
-
 def tests():
     """Each test of this part: its title, and a function that raises an error if it fails."""
     yield from ((case.title, lambda case=case: tried(case)) for case in all_cases())
@@ -883,8 +871,7 @@ def tests():
         for number in (signal.SIGTERM, signal.SIGINT, signal.SIGHUP, signal.SIGQUIT)
     )
     for test in (turn_time, late_echo, wrong_echo, passes_over_a_signal, line_gone,
-                 is_stopped, settings, full_device, nobody_reads, closed_descriptors, words,
-                 helps):
+                 is_stopped, settings, full_device, nobody_reads, closed_descriptors, words):
         yield (f"terminal: {test.__name__}", test)
     for of in ((["--patience", "2"], 2, 1), ([], 600, 300)):
         yield f"terminal: NULLs for {of[1]} s", lambda of=of: nulls_for_ever(*of)

@@ -32,7 +32,8 @@ class End(Line):
     """A card's end of a line, at T=0 or T=1, in a thread of its own: the line is two queues."""
 
     def __init__(self, it, talks):
-        self.of, self.cwt, self.sent, self.fault, self.blocks = it, 1.0, b"", None, []
+        self.of, self.cwt, self.fault, self.blocks = it, 1.0, None, []
+        self.sent = self.ahead = b""
         self.asks, self.characters = SimpleQueue(), SimpleQueue()
         threading.Thread(target=self.run, args=[talks], daemon=True).start()
         self.asks.get(timeout=60)

@@ -164,11 +164,19 @@ class Vpcd:
     def say(self, data):
         self.line.sendall(len(data).to_bytes(2, "big") + data)
 
+    def receive(self, count):
+        """This many bytes, or fewer if the connection has ended. MSG_WAITALL would not wait, as
+        the line has a limit of time."""
+        found = b""
+        while len(found) < count and (more := self.line.recv(count - len(found))):
+            found += more
+        return found
+
     def ask(self, data):
         """The answer, or None if the connection has ended."""
         self.say(data)
-        size = self.line.recv(2)
-        return self.line.recv(int.from_bytes(size, "big")) if size else None
+        size = self.receive(2)
+        return self.receive(int.from_bytes(size, "big")) if size else None
 
     def end(self):
         self.simulator.is_over.set()
@@ -181,8 +189,7 @@ def test_an_answer_longer_than_a_message_is_cut():
     faults = [f"command 1, add {'5A' * 35000}"] * 2
     it = Vpcd(of=Simulator(Card({bytes(5): {}}), faults=Faults(read("\n".join(faults)))))
     it.say(bytes(5))
-    size = it.line.recv(2, socket.MSG_WAITALL)
-    assert size == b"\xFF\xFF" and it.line.recv(65535, socket.MSG_WAITALL) == b"\x5A" * 65535
+    assert it.receive(2) == b"\xFF\xFF" and it.receive(65535) == b"\x5A" * 65535
     it.end()
 
 
@@ -351,13 +358,14 @@ def test_errors_before_anything_runs(files, capsys, monkeypatch, words, faults, 
 def test_a_reader_that_is_not_there_is_named_once(capsys, monkeypatch):
     """And each time that the card is in, it says so."""
     monkeypatch.setattr(simulate, "AWAY_FOR", 0.01)
-    with socket.create_server(("localhost", 0)) as closed:
-        address = f"localhost:{closed.getsockname()[1]}"
     of = Simulator(Card({bytes.fromhex(AID): {}}))
-    thread = threading.Thread(target=serve_vpcd, args=(of, address))
-    thread.start()
-    time.sleep(0.3)
-    with socket.create_server(("localhost", int(address.partition(":")[2]))) as server:
+    with socket.socket() as server:
+        server.bind(("localhost", 0))
+        address = f"localhost:{server.getsockname()[1]}"
+        thread = threading.Thread(target=serve_vpcd, args=(of, address))
+        thread.start()
+        time.sleep(0.3)
+        server.listen()
         server.settimeout(60)
         for _ in range(2):
             server.accept()[0].close()
@@ -368,6 +376,17 @@ def test_a_reader_that_is_not_there_is_named_once(capsys, monkeypatch):
     first, *lines = capsys.readouterr().err.splitlines()
     assert first.startswith(f"waiting for vpcd at {address}: ")
     assert lines == [f"the card is in the reader of vpcd at {address}"] * 3
+
+
+def test_a_connection_with_itself_is_none(monkeypatch):
+    """Where nothing listens, TCP may connect a port that it chose with that very port."""
+    made = socket.socket()
+    made.bind(("localhost", 0))
+    made.connect(made.getsockname())
+    monkeypatch.setattr(simulate.socket, "create_connection", lambda _: made)
+    with pytest.raises(ConnectionRefusedError, match="^nothing listens there$"):
+        simulate.connected("localhost:1")
+    assert made.fileno() == -1
 
 
 def test_files_and_ports_that_are_missing(tmp_path, capsys):

@@ -213,8 +213,7 @@ class Faults:
         self.was_6c = status[:1] == b"\x6C"
         if data or status[0] not in (0x61, 0x6C):
             data = self.edited(data, *DATA)
-        status = MORE if self.edited(False, "61 without end") else status
-        status = self.edited(status, "status SW")
+        status = self.edited(MORE if self.edited(False, "61 without end") else status, "status SW")
         self.pauses = self.edited(self.pauses, "delay SECONDS")
         if self.edited(False, "mute", "power off"):
             self.gone = Gone(self.struck[-1])

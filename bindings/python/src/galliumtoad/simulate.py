@@ -50,8 +50,7 @@ class Simulator(contextlib.ExitStack):
         self.takes_data = own.takes_data if own else lambda header: header[1] in (0xA4, 0xDA)
         self.instead = own.instead if isinstance(own, Replay) else lambda header: None
         self.carried_out: Callable[[bytes], object] = lambda command: None
-        self.faults.tell = self.tell
-        self.level = Level.APDU if own else Level.TPDU
+        self.faults.tell, self.level = self.tell, Level.APDU if own else Level.TPDU
         with contextlib.suppress(AtrError):  # whole commands reach a card with any answer
             self.level = Level.APDU if Atr(atr).protocols[0] else self.level
 
@@ -117,7 +116,6 @@ class Line(Application):
     """A card's end of a line of characters. At T=1 the library's end numbers, acknowledges and
     repeats blocks. In place of a command it gets one of its own, with a response as long as the
     card's, which replaces it. The last block has what exceeds the response to a short command."""
-    ahead = b""  # the first character, which may begin a PPS request
 
     def __init__(self, of: Simulator, fd: int, has_echo: bool = False, baud: int = 9600,
                  signal: str = "") -> None:
@@ -127,7 +125,7 @@ class Line(Application):
             if says.protocols[0] > 1 or says.t1.edc != Edc.LRC or (
                     says.specific and says.rate_code != DEFAULT_RATE):
                 raise ValueError(of.atr.hex().upper())
-        self.of, self.fd, self.has_echo, self.heard = of, fd, has_echo, b""
+        self.of, self.fd, self.has_echo, self.heard, self.ahead = of, fd, has_echo, b"", b""
         self.turned = TURNED if of.atr[0] == 0x3F else None
         self.bit, self.cwt = SIGNALS.get(signal, 0), 0.2 + says.t1.cwt_etu / baud
         places = {LINE: True, T0: 0 in says.protocols, T1: 1 in says.protocols, ECHO: has_echo}
@@ -170,7 +168,7 @@ class Line(Application):
         mute (ISO/IEC 7816-3, 9.1 and 9.3). Raises `OSError` at the next reset, or as `read`."""
         self.of.reset()
         self.write(self.of.atr)
-        t, self.ahead = self.says.protocols[0], self.read()
+        t, self.ahead = self.says.protocols[0], self.read()  # which may begin a PPS request
         with contextlib.suppress(Gone, PpsError):
             if self.ahead == PPSS and not self.says.specific:
                 pps = self.take(lambda it: 3 + bin(it[1] & 0x70).count("1") if it[1:] else 2)
@@ -283,7 +281,11 @@ def connected(address: str) -> socket.socket:
     """Connects to vpcd. Raises `OSError`, and `Mistake` for an address without a port."""
     host, _, port = address.rpartition(":")
     with mistakes(f"argument --vpcd: HOST:PORT is expected: {address}", ValueError):
-        return socket.create_connection((host or "localhost", range(65536).index(number(port))))
+        it = socket.create_connection((host or "localhost", range(65536).index(number(port))))
+    if it.getsockname() == it.getpeername():  # with itself, as TCP may while nothing listens
+        it.close()
+        raise ConnectionRefusedError("nothing listens there")
+    return it
 
 
 def talk_vpcd(of: Simulator, line: socket.socket, tell: Callable[[str], object]) -> None:
@@ -297,15 +299,14 @@ def talk_vpcd(of: Simulator, line: socket.socket, tell: Callable[[str], object])
                 # vpcd sends the rest once the length is acknowledged, else 40 ms later.
                 line.setsockopt(socket.IPPROTO_TCP, socket.TCP_QUICKACK, 1)
                 data = line.recv(int.from_bytes(size, "big"), socket.MSG_WAITALL)
-                is_cut = len(data) < int.from_bytes(size, "big")  # the connection has ended
-                if is_cut or data in (POWER_OFF, POWER_ON, RESET):
+                if data in (POWER_OFF, POWER_ON, RESET):
                     of.reset()
                     looks = 2
-                    continue
-                if (looks := looks - (data == GET_ATR)) == 0:
-                    tell("")
-                answer = (of.atr if data == GET_ATR else of(data))[:0xFFFF]
-                line.sendall(len(answer).to_bytes(2, "big") + answer)
+                elif len(data) == int.from_bytes(size, "big"):  # else the connection has ended
+                    if (looks := looks - (data == GET_ATR)) == 0:
+                        tell("")
+                    answer = (of.atr if data == GET_ATR else of(data))[:0xFFFF]
+                    line.sendall(len(answer).to_bytes(2, "big") + answer)
         of.is_over.wait(MUTE_FOR if str(of.faults.gone) == "mute" else 0)
 
 

@@ -2,6 +2,7 @@
 
 import os
 import platform
+import re
 import socket
 import subprocess
 import sys
@@ -90,12 +91,12 @@ class Desk:
         self.made = [subprocess.Popen([*words, path / "conf"], stdout=subprocess.DEVNULL,
                                       stderr=subprocess.DEVNULL, env=self.environment)]
         self.number = ""
-        wait_until(lambda: not self.is_free())
+        wait_until(self.listens)
 
-    def is_free(self):
-        """Whether nothing listens for cards yet."""
-        with socket.socket() as it:
-            return it.connect_ex(("localhost", self.port)) != 0
+    def listens(self):
+        """Whether vpcd listens for cards. A connection would not tell: it may be with itself."""
+        sockets = "".join(it.read_text() for it in Path("/proc/net").glob("tcp*"))
+        return re.search(f":{self.port:04X} [0-9A-F]+:0000 0A ", sockets) is not None
 
     def card(self, *words):
         """Puts a card into the reader. Returns the program."""

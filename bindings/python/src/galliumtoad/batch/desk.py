@@ -143,7 +143,7 @@ class Desk:
             except OSError as error:
                 self.say(f"no report: {error}")
             self._reported = size
-            if sys.stdout and sys.stdout.isatty():  # a bar, with the rate and the time left
+            if sys.stdout.isatty():  # a bar, with the rate and the time left
                 done, all_of = self.journal.count("done"), len(self.journal.numbers)
                 rate = (done - self._done_before) / max(self._looked - self._begun, 0.1) * 60
                 left = f", {(all_of - done) / rate:.0f} min left" if rate else ""

@@ -8,3 +8,4 @@ pub mod PieceList
 pub mod PiecesLeft
 pub mod FaultText
 pub mod Laws
+pub mod Shared

@@ -24,6 +24,7 @@ mod cut;
 mod header;
 pub mod laws;
 mod meaning;
+mod shared;
 mod status;
 
 pub use chain::{Chain, TooLong};
@@ -31,4 +32,5 @@ pub use command::{ApduFault, Command};
 pub use cut::{Pieces, pieces};
 pub use header::Header;
 pub use meaning::{Commands, MEANINGS, Meaning};
+pub use shared::{GET_RESPONSE, RESPONSE_LIMIT};
 pub use status::{Status, count};

@@ -25,13 +25,13 @@ use Rattle.t0_core.specs.CardSide.{EndOf, PermitsData}
 use Rattle.t0_core.specs.TpduBytes.{Asked, asked_for, asked_with, asked_in}
 use Rattle.t0_core.specs.CardTpdu.{rests, CarriesOut, HasGone, Answers, Fails, IsStuck, IsCause}
 use Rattle.object_card.specs.Agreed.{IsAgreed}
-use Rattle.card_terminal.specs.declared.wanted.Wanted.{Wanted}
-use Rattle.card_terminal.specs.declared.wanted.Wanted.TheVariants.{Bytes}
+use Rattle.exchange_core.specs.declared.wanted.Wanted.{Wanted}
+use Rattle.exchange_core.specs.declared.wanted.Wanted.TheVariants.{Bytes}
 use Rattle.object_card.specs.State.{CardState}
 use Rattle.object_card.specs.DataCard.{StandsFor}
-use Rattle.card_terminal.specs.declared.attempt.Attempt.{Attempt}
-use Rattle.card_terminal.specs.declared.attempt.Next.TheVariants as next
-use Rattle.card_terminal.specs.Attempts.{following, most_begun, one_more}
+use Rattle.exchange_core.specs.declared.attempt.Attempt.{Attempt}
+use Rattle.exchange_core.specs.declared.attempt.Next.TheVariants as next
+use Rattle.exchange_core.specs.Attempts.{following, most_begun, one_more}
 use Rattle.apdu_terminal.specs.declared.stage.Stage.TheVariants.{Going, Done, Failed}
 use Rattle.apdu_terminal.specs.declared.apdu_fault.CarryFault.{CarryFault}
 use Rattle.apdu_terminal.specs.declared.apdu_fault.CarryFault.TheVariants as why

@@ -13,15 +13,16 @@ use Rattle.object_card.specs.Agreed.{IsAgreed}
 use Rattle.object_card.specs.State.{CardState, IsCardState}
 use Rattle.object_card.specs.CardMeaning.{Does}
 use Rattle.object_card.specs.DataCard.{StandsFor}
-use Rattle.object_card.specs.OneStep.{Operation, Select, Get, Put, Reply}
+use Rattle.apdu_core.specs.Shared.{Reply}
+use Rattle.object_card.specs.OneStep.{Operation, Select, Get, Put}
 use Rattle.object_card.specs.CarryingOut.{put_header}
 use Rattle.object_card.specs.declared.instructions.Instruction.{Instruction}
 use Rattle.object_card.specs.declared.instructions.Instruction.TheVariants.{GetData, GetResponse}
 use Rattle.object_card.specs.Instructions.{ins_of, takes_data}
 use Rattle.object_card.specs.InstructionLaws.{one_way}
 use Rattle.card_terminal.specs.AgreedLaws.{KeepsTo, agreed_select, agreed_pieces}
-use Rattle.card_terminal.specs.ExchangeSide.{response_limit}
-use Rattle.card_terminal.specs.Gathered.{wanted_by}
+use Rattle.exchange_core.specs.ExchangeSide.{response_limit}
+use Rattle.exchange_core.specs.Gathered.{wanted_by}
 use Rattle.card_terminal.specs.Talk.{AreCommandsOf}
 use Rattle.apdu_terminal.specs.declared.stage.Stage.{Stage}
 use Rattle.apdu_terminal.specs.declared.stage.Stage.TheVariants.{Going, Done, Failed}

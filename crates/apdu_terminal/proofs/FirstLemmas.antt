@@ -12,7 +12,8 @@ use Rattle.tlv_core.specs.Address.{NamesTag}
 use Rattle.tlv_core.specs.Spelling.{object_bytes}
 use Rattle.object_card.specs.Tables.{IsAid, entries_in}
 use Rattle.object_card.specs.State.{CardState, is_idle, waiting, pending_of, with_selected}
-use Rattle.object_card.specs.OneStep.{Operation, Select, Get, reply, Answers, selects, finds_no_application, gives, control_information, SameTables}
+use Rattle.apdu_core.specs.Shared.{reply}
+use Rattle.object_card.specs.OneStep.{Operation, Select, Get, Answers, selects, finds_no_application, gives, control_information, SameTables}
 use Rattle.object_card.specs.Refusals.{is_select, refusal}
 use Rattle.object_card.specs.CardMeaning.{Does, announcing}
 use Rattle.object_card.specs.CarryingOut.{select_header, get_header, IsCarriedOut}
@@ -20,8 +21,8 @@ use Rattle.object_card.specs.OperationLaws.{no_correction}
 use Rattle.object_card.specs.ResponseLaws.{rest_waits, rest_is_idle}
 use Rattle.object_card.specs.StepLaws.{select_step, select_refused, is_selected, is_missed}
 use Rattle.object_card.specs.AnswerLaws.{answers_alike}
-use Rattle.card_terminal.specs.declared.wanted.Wanted.TheVariants.{Bytes, Everything}
-use Rattle.card_terminal.specs.Gathered.{less, fetched_after}
+use Rattle.exchange_core.specs.declared.wanted.Wanted.TheVariants.{Bytes, Everything}
+use Rattle.exchange_core.specs.Gathered.{less, fetched_after}
 use Rattle.card_terminal.specs.Talk.{select_command, get_command}
 use Rattle.apdu_terminal.specs.Apdus.{Pair, Place, first_place, asking, may_bring, Goes, Ends, follow, repeated, Suits, all_content, Brings}
 use Rattle.apdu_terminal.specs.CardApdu.{p3_of, tpdu_command, le_of_tpdu, IsTpduOf, InTurn, GoesAs, Responds, RespondsToAll}

@@ -5,7 +5,7 @@ use Rattle.apdu_core.specs.StatusWord.{StatusWord, ok}
 use Rattle.apdu_core.specs.CommandBytes.{Command}
 use Rattle.t0_core.specs.declared.tpdu_card.TpduCard.{Ghosts}
 use Rattle.t0_core.specs.Meaning.{Tpdu}
-use Rattle.object_card.specs.CarryingOut.{get_response}
+use Rattle.apdu_core.specs.Shared.{get_response}
 use Rattle.apdu_terminal.specs.declared.apdu_fault.CarryFault.{CarryFault}
 use Rattle.apdu_terminal.specs.declared.apdu_fault.CarryFault.TheVariants as why
 use Rattle.apdu_terminal.specs.Apdus.{Pair, Place, first_place, Goes, Stalls, Ends, follow, GoesThrough}

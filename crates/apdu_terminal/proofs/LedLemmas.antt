@@ -4,13 +4,13 @@ use Rattle.std.proofs.Common.{◌≡◌, ℕ, ◌+◌, ◌-◌, ◌≤◌, List,
 use Rattle.std.proofs.lemmas.Bool.{ne_eqb, ltb-false, leb-true}
 use Rattle.std.proofs.lemmas.Bool.Decides.{eqb_tells}
 use Rattle.apdu_core.specs.StatusWord.{StatusWord, corrects}
-use Rattle.card_terminal.specs.declared.wanted.Wanted.{Wanted}
-use Rattle.card_terminal.specs.declared.wanted.Wanted.TheVariants.{Bytes, Everything}
-use Rattle.card_terminal.specs.declared.attempt.Attempt.{Attempt}
-use Rattle.card_terminal.specs.declared.attempt.Next.{Next}
-use Rattle.card_terminal.specs.declared.attempt.Next.TheVariants as next
-use Rattle.card_terminal.specs.Gathered.{less, wants_at_least, fetched_after}
-use Rattle.card_terminal.specs.Attempts.{again_with, next_by, following, fetch, repetition}
+use Rattle.exchange_core.specs.declared.wanted.Wanted.{Wanted}
+use Rattle.exchange_core.specs.declared.wanted.Wanted.TheVariants.{Bytes, Everything}
+use Rattle.exchange_core.specs.declared.attempt.Attempt.{Attempt}
+use Rattle.exchange_core.specs.declared.attempt.Next.{Next}
+use Rattle.exchange_core.specs.declared.attempt.Next.TheVariants as next
+use Rattle.exchange_core.specs.Gathered.{less, wants_at_least, fetched_after}
+use Rattle.exchange_core.specs.Attempts.{again_with, next_by, following, fetch, repetition}
 use Rattle.apdu_terminal.specs.Apdus.{Place, asking, is_case_2, correction, Follow, Goes, Stalls, Ends, follow_by, follow, Pair, first_place, may_bring, Suits, GoesThrough, all_content, Brings, StallsAt, IsTooLong}
 use Rattle.apdu_terminal.specs.ApduSide.{ApduExchangeOf, place_of, IsSound, is_going, ComesTo, to_place, to_end, to_stall, to_fault, excess, response_fault, answered_by}
 use Rattle.std.specs.Prelude.{nat_lt, nat_le}

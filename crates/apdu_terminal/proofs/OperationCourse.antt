@@ -2,8 +2,8 @@
 use Rattle.std.proofs.Common.{◌≡◌, List, [], ◌∷◌, ◌++◌, inl, inr, sym, ◌∙◌, ap, append-nil, append_assoc, Some}
 use Rattle.apdu_core.specs.StatusWord.{ok}
 use Rattle.apdu_core.specs.CommandBytes.{Command}
-use Rattle.object_card.specs.OneStep.{Reply}
-use Rattle.card_terminal.specs.Gathered.{wanted_by}
+use Rattle.apdu_core.specs.Shared.{Reply}
+use Rattle.exchange_core.specs.Gathered.{wanted_by}
 use Rattle.apdu_terminal.specs.declared.stage.Stage.TheVariants.{Done}
 use Rattle.apdu_terminal.specs.Apdus.{Pair}
 use Rattle.apdu_terminal.specs.ApduTalk.{AreApdusOf, talk_pairs}

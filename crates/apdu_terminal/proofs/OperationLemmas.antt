@@ -15,8 +15,9 @@ use Rattle.t0_core.specs.declared.answer_fault.AnswerFault.TheVariants.{NotDue}
 use Rattle.t0_core.specs.Character.{Character}
 use Rattle.t0_core.specs.DialogueLaws.{flat_map_last}
 use Rattle.object_card.specs.CarryingOut.{put_header}
-use Rattle.object_card.specs.OneStep.{Put, Reply}
-use Rattle.card_terminal.specs.Gathered.{wanted_by}
+use Rattle.apdu_core.specs.Shared.{Reply}
+use Rattle.object_card.specs.OneStep.{Put}
+use Rattle.exchange_core.specs.Gathered.{wanted_by}
 use Rattle.card_terminal.specs.PieceLaws.{IsFrontOf, left_is, left_after, chain_of, opening_front, rest_seen}
 use Rattle.card_terminal.specs.Talk.{AreCommandsOf}
 use Rattle.card_terminal.specs.TalkLaws.{is_ok_or_not}

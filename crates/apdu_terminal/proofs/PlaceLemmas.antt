@@ -6,10 +6,10 @@ use Rattle.apdu_core.specs.StatusWord.{StatusWord, announces, corrects}
 use Rattle.apdu_core.specs.CommandBytes.{Command}
 use Rattle.t0_core.specs.DialogueLaws.{flat_map_last}
 use Rattle.object_card.specs.Agreed.{IsAgreed}
-use Rattle.object_card.specs.CarryingOut.{get_response}
-use Rattle.card_terminal.specs.declared.wanted.Wanted.{Wanted}
-use Rattle.card_terminal.specs.declared.wanted.Wanted.TheVariants.{Bytes, Everything}
-use Rattle.card_terminal.specs.Gathered.{less, smaller, wants_some, wants_at_least, wanted_by, fetched_of, fetched_after}
+use Rattle.apdu_core.specs.Shared.{get_response}
+use Rattle.exchange_core.specs.declared.wanted.Wanted.{Wanted}
+use Rattle.exchange_core.specs.declared.wanted.Wanted.TheVariants.{Bytes, Everything}
+use Rattle.exchange_core.specs.Gathered.{less, smaller, wants_some, wants_at_least, wanted_by, fetched_of, fetched_after}
 use Rattle.apdu_terminal.specs.Apdus.{Pair, Place, first_place, asking, is_case_2, may_bring, correction, Goes, Stalls, Ends, follow, follow_by, repeated, fetched, Suits, GoesThrough, all_content, Brings, IsTooLong}
 use Rattle.apdu_terminal.specs.CardApdu.{tpdu_command, le_of}
 

@@ -10,12 +10,12 @@ use Rattle.t0_core.specs.Plan.{IsCut}
 use Rattle.object_card.specs.State.{CardState, is_idle, waiting}
 use Rattle.object_card.specs.OneStep.{SameTables}
 use Rattle.object_card.specs.CardMeaning.{Does, announcing}
-use Rattle.object_card.specs.CarryingOut.{get_response}
+use Rattle.apdu_core.specs.Shared.{get_response}
 use Rattle.object_card.specs.OperationLaws.{no_correction}
 use Rattle.object_card.specs.ResponseLaws.{announces_some, count_is_some, fetched, rest_waits, rest_is_idle}
-use Rattle.card_terminal.specs.declared.wanted.Wanted.{Wanted}
-use Rattle.card_terminal.specs.declared.wanted.Wanted.TheVariants.{Bytes, Everything}
-use Rattle.card_terminal.specs.Gathered.{less, smaller, wants_some, fetched_of, fetched_after}
+use Rattle.exchange_core.specs.declared.wanted.Wanted.{Wanted}
+use Rattle.exchange_core.specs.declared.wanted.Wanted.TheVariants.{Bytes, Everything}
+use Rattle.exchange_core.specs.Gathered.{less, smaller, wants_some, fetched_of, fetched_after}
 use Rattle.apdu_terminal.specs.Apdus.{Pair, Place, first_place, asking, is_case_2, correction, Goes, Stalls, Ends, follow, follow_by, all_content}
 use Rattle.apdu_terminal.specs.Apdus as spec
 use Rattle.apdu_terminal.proofs.PlaceLemmas.{Whole, at_end, further, brings_whole, Comes, again, fetch, comes}

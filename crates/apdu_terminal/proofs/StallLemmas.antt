@@ -8,11 +8,11 @@ use Rattle.object_card.specs.declared.limits.TheConstants.{VALUE_LIMIT, HEAD_LIM
 use Rattle.object_card.specs.State.{CardState, IsCardState, waiting}
 use Rattle.object_card.specs.StateLaws.{stays_sound}
 use Rattle.object_card.specs.CardMeaning.{Does}
-use Rattle.object_card.specs.CarryingOut.{get_response}
+use Rattle.apdu_core.specs.Shared.{get_response}
 use Rattle.object_card.specs.ResponseLaws.{what_is_announced_waits, corrected_brings_none, brings_within}
-use Rattle.card_terminal.specs.declared.wanted.Wanted.{Wanted}
-use Rattle.card_terminal.specs.ExchangeSide.{response_limit}
-use Rattle.card_terminal.specs.Gathered.{less}
+use Rattle.exchange_core.specs.declared.wanted.Wanted.{Wanted}
+use Rattle.exchange_core.specs.ExchangeSide.{response_limit}
+use Rattle.exchange_core.specs.Gathered.{less}
 use Rattle.apdu_terminal.specs.Apdus.{Pair, Place, first_place, asking, Goes, Stalls, follow, follow_by, fetched, Suits, GoesThrough, all_content, StallsAt, IsTooLong}
 use Rattle.apdu_terminal.specs.CardApdu.{le_of, tpdu_command, InTurn, GoesAs, GoesBy, Responds, RespondsToAll}
 use Rattle.apdu_terminal.proofs.PlaceLemmas.{Comes, again, fetch, comes}

@@ -9,16 +9,18 @@ use Rattle.t0_core.specs.Meaning.{Tpdu}
 use Rattle.tlv_core.specs.Address.{NamesTag}
 use Rattle.object_card.specs.Agreed.{IsAgreed}
 use Rattle.object_card.specs.CardMeaning.{Does, refuses, selects_application, misses_application, sends, chains, puts_value}
-use Rattle.object_card.specs.CarryingOut.{put_header, get_response, IsAnswered}
+use Rattle.apdu_core.specs.Shared.{get_response}
+use Rattle.object_card.specs.CarryingOut.{put_header, IsAnswered}
 use Rattle.object_card.specs.Instructions.{MayReceive, MaySend}
-use Rattle.object_card.specs.OneStep.{Operation, Select, Get, Put, Reply, reply, SameTables}
+use Rattle.apdu_core.specs.Shared.{Reply, reply}
+use Rattle.object_card.specs.OneStep.{Operation, Select, Get, Put, SameTables}
 use Rattle.object_card.specs.Refusals.{is_select, is_put, is_get_response}
 use Rattle.object_card.specs.State.{CardState, is_idle}
 use Rattle.object_card.specs.StepLaws.{put_step, put_refused, is_chained, is_ended}
 use Rattle.object_card.specs.Tables.{IsAid}
 use Rattle.card_terminal.specs.AgreedLaws.{keeps_to}
-use Rattle.card_terminal.specs.Gathered.{wanted_by}
-use Rattle.card_terminal.specs.declared.wanted.Wanted.TheVariants.{Bytes, Everything}
+use Rattle.exchange_core.specs.Gathered.{wanted_by}
+use Rattle.exchange_core.specs.declared.wanted.Wanted.TheVariants.{Bytes, Everything}
 use Rattle.card_terminal.specs.Talk.{select_command, get_command}
 use Rattle.apdu_terminal.specs.Apdus.{Pair, Place, first_place, Goes, Ends, GoesThrough, GathersApdus}
 use Rattle.apdu_terminal.specs.ApduOperations.{AreApdusUpTo}

@@ -9,14 +9,15 @@ use Rattle.t0_core.specs.Meaning.{Tpdu}
 use Rattle.t0_core.specs.CardSide.{EndOf}
 use Rattle.t0_core.specs.declared.tpdu_card.TpduCard.{Ghosts}
 use Rattle.object_card.specs.State.{CardState, is_idle}
-use Rattle.object_card.specs.OneStep.{Operation, Select, Get, Put, Reply, Answers, AnswersAll, SameTables}
+use Rattle.apdu_core.specs.Shared.{Reply}
+use Rattle.object_card.specs.OneStep.{Operation, Select, Get, Put, Answers, AnswersAll, SameTables}
 use Rattle.object_card.specs.CardMeaning.{Does}
 use Rattle.object_card.specs.DataCard.{StandsFor}
 use Rattle.object_card.specs.CarryingOut.{put_header, IsCarriedOut, Carries, IsAnswered, EndsWith}
 use Rattle.object_card.specs.PutRunLaws.{chain_is_put}
-use Rattle.card_terminal.specs.declared.wanted.Wanted.{Wanted}
-use Rattle.card_terminal.specs.declared.wanted.Wanted.TheVariants.{Bytes}
-use Rattle.card_terminal.specs.Gathered.{less, fetched_of, fetched_after}
+use Rattle.exchange_core.specs.declared.wanted.Wanted.{Wanted}
+use Rattle.exchange_core.specs.declared.wanted.Wanted.TheVariants.{Bytes}
+use Rattle.exchange_core.specs.Gathered.{less, fetched_of, fetched_after}
 use Rattle.card_terminal.specs.Talk.{select_command, get_command}
 use Rattle.card_terminal.specs.declared.operation.Op.{Op}
 use Rattle.card_terminal.specs.RunLaws.{HaveReplies, replies_come}

@@ -11,8 +11,8 @@ use Rattle.t0_core.specs.Meaning.{Tpdu}
 use Rattle.card_terminal.specs.declared.terminal.begin_fault.BeginFault.{BeginFault}
 use Rattle.card_terminal.specs.declared.terminal.begin_fault.BeginFault.TheVariants.{OutOfMemory, UnderWay}
 use Rattle.card_terminal.specs.declared.unsent.Unsent.{Unsent}
-use Rattle.card_terminal.specs.Gathered.{wanted_by}
-use Rattle.card_terminal.specs.ExchangeSide.{response_limit}
+use Rattle.exchange_core.specs.Gathered.{wanted_by}
+use Rattle.exchange_core.specs.ExchangeSide.{response_limit}
 use Rattle.card_terminal.specs.TerminalSide.{AreLeft}
 use Rattle.apdu_terminal.specs.declared.stage.Stage.TheVariants.{Going, Done, Failed}
 use Rattle.apdu_terminal.specs.Apdus.{Pair, GathersApdus, all_content}

@@ -6,13 +6,13 @@ use Rattle.t0_core.specs.declared.answer_fault.AnswerFault.{AnswerFault}
 use Rattle.t0_core.specs.declared.answer_fault.AnswerFault.TheVariants.{NotDue, NotAsked, TooMany, TooLong, Stalled}
 use Rattle.t0_core.specs.HostAnswer.{fails_with}
 use Rattle.t0_core.specs.Room.{Room}
-use Rattle.card_terminal.specs.declared.start_fault.StartFault.{StartFault}
-use Rattle.card_terminal.specs.declared.start_fault.StartFault.TheVariants.{OutOfMemory, OverLimit}
-use Rattle.card_terminal.specs.declared.wanted.Wanted.{Wanted}
-use Rattle.card_terminal.specs.declared.attempt.Attempt.{Attempt}
-use Rattle.card_terminal.specs.Attempts.{IsCounted}
-use Rattle.card_terminal.specs.Gathered.{less}
-use Rattle.card_terminal.specs.ExchangeSide.{response_limit}
+use Rattle.exchange_core.specs.declared.start_fault.StartFault.{StartFault}
+use Rattle.exchange_core.specs.declared.start_fault.StartFault.TheVariants.{OutOfMemory, OverLimit}
+use Rattle.exchange_core.specs.declared.wanted.Wanted.{Wanted}
+use Rattle.exchange_core.specs.declared.attempt.Attempt.{Attempt}
+use Rattle.exchange_core.specs.Attempts.{IsCounted}
+use Rattle.exchange_core.specs.Gathered.{less}
+use Rattle.exchange_core.specs.ExchangeSide.{response_limit}
 use Rattle.apdu_terminal.specs.declared.exchange.apdu_mark.ApduMark.{ApduMark}
 use Rattle.apdu_terminal.specs.declared.stage.Stage.{Stage}
 use Rattle.apdu_terminal.specs.declared.stage.Stage.TheVariants.{Going, Done, Failed}

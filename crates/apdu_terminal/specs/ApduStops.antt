@@ -3,7 +3,8 @@ use Rattle.std.specs.Prelude.{◌≡◌, List, ℕ, ◌==◌, Bool, Some, true, 
 use Rattle.apdu_core.specs.declared.header.Header.{Header}
 use Rattle.apdu_core.specs.CommandBytes.{Command}
 use Rattle.object_card.specs.State.{CardState, is_idle}
-use Rattle.object_card.specs.OneStep.{Operation, Reply, Answers, SameTables}
+use Rattle.apdu_core.specs.Shared.{Reply}
+use Rattle.object_card.specs.OneStep.{Operation, Answers, SameTables}
 use Rattle.object_card.specs.Refusals.{is_get_response}
 use Rattle.card_terminal.specs.Talk.{AreCommandsOf}
 use Rattle.apdu_terminal.specs.Apdus.{Pair}

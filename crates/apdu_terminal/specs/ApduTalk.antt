@@ -2,7 +2,8 @@
 use Rattle.std.specs.Prelude.{List}
 use Rattle.std.specs.List.{flat_map}
 use Rattle.apdu_core.specs.CommandBytes.{Command}
-use Rattle.object_card.specs.OneStep.{Operation, Reply}
+use Rattle.apdu_core.specs.Shared.{Reply}
+use Rattle.object_card.specs.OneStep.{Operation}
 use Rattle.card_terminal.specs.Talk.{AreExchangesBy, IsTalkBy, AreTalksBy}
 use Rattle.apdu_terminal.specs.Apdus.{Pair, GathersApdus}
 

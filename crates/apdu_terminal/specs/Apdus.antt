@@ -6,9 +6,9 @@ use Rattle.std.specs.List.{flat_map}
 use Rattle.apdu_core.specs.declared.header.Header.{Header}
 use Rattle.apdu_core.specs.StatusWord.{StatusWord, corrects}
 use Rattle.apdu_core.specs.CommandBytes.{Command}
-use Rattle.object_card.specs.CarryingOut.{get_response}
-use Rattle.card_terminal.specs.declared.wanted.Wanted.{Wanted}
-use Rattle.card_terminal.specs.Gathered.{wanted_by, less, wants_at_least, fetched_after}
+use Rattle.apdu_core.specs.Shared.{get_response}
+use Rattle.exchange_core.specs.declared.wanted.Wanted.{Wanted}
+use Rattle.exchange_core.specs.Gathered.{wanted_by, less, wants_at_least, fetched_after}
 
 -- a command that was sent, and its response
 pub record Pair : Type 0 where

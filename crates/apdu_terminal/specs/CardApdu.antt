@@ -12,8 +12,8 @@ use Rattle.t0_core.specs.CardSide.{EndOf}
 use Rattle.t0_core.specs.CardTpdu.{rests}
 use Rattle.t0_core.specs.Meaning.{Tpdu}
 use Rattle.object_card.specs.Agreed.{IsAgreed}
-use Rattle.card_terminal.specs.declared.wanted.Wanted.TheVariants.{Bytes}
-use Rattle.card_terminal.specs.declared.wanted.Wanted.{Wanted}
+use Rattle.exchange_core.specs.declared.wanted.Wanted.TheVariants.{Bytes}
+use Rattle.exchange_core.specs.declared.wanted.Wanted.{Wanted}
 use Rattle.apdu_terminal.specs.declared.apdu_fault.CarryFault.{CarryFault}
 use Rattle.apdu_terminal.specs.declared.apdu_fault.CarryFault.TheVariants as why
 use Rattle.apdu_terminal.specs.declared.stage.Stage.TheVariants.{Done}

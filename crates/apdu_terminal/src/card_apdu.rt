@@ -5,7 +5,7 @@ ghost use Rattle.apdu_core.specs.CommandBytes as spec;
 ghost use Rattle.apdu_core.specs.StatusWord.{StatusWord};
 ghost use Rattle.t0_core.specs.CardTpdu.{rests};
 ghost use Rattle.t0_core.specs.Meaning.{Tpdu};
-ghost use Rattle.card_terminal.specs.ExchangeSide.{response_limit};
+ghost use Rattle.exchange_core.specs.ExchangeSide.{response_limit};
 ghost use Rattle.apdu_terminal.specs.Apdus.{may_bring};
 ghost use Rattle.apdu_terminal.specs.ApduSide.{has_failed};
 ghost use Rattle.apdu_terminal.specs.CardApdu.{HasCome, HasFailed, HasResponse, IsLeft, IsTpduOf, StopsBy, tpdu_command};

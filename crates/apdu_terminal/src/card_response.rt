@@ -3,7 +3,7 @@ ghost use Rattle.std.specs.Prelude.{◌≡◌, ◌⊎◌, ◌≤◌, [], false, 
 ghost use Rattle.object_card.specs.Agreed.{IsAgreed};
 ghost use Rattle.object_card.specs.Instructions.{MayReceive, MaySend};
 ghost use Rattle.t0_core.specs.CardTpdu.{rests};
-ghost use Rattle.card_terminal.specs.ExchangeSide.{response_limit};
+ghost use Rattle.exchange_core.specs.ExchangeSide.{response_limit};
 ghost use Rattle.apdu_terminal.specs.Apdus.{may_bring};
 ghost use Rattle.apdu_terminal.specs.CardApdu.{HasResponse};
 ghost use Rattle.apdu_terminal.specs.declared.apdu_fault.CarryFault.TheVariants as CarryFault;

@@ -3,8 +3,8 @@ ghost use Rattle.std.specs.Prelude.{◌≡◌, ◌≤◌, OnOk, ◌↔◌, List,
 ghost use Rattle.std.specs.Option.{option_map};
 ghost use Rattle.apdu_core.specs.CommandBytes as spec;
 ghost use Rattle.apdu_core.specs.StatusWord.{StatusWord};
-ghost use Rattle.card_terminal.specs.Gathered.{wanted_by};
-ghost use Rattle.card_terminal.specs.ExchangeSide.{response_limit};
+ghost use Rattle.exchange_core.specs.Gathered.{wanted_by};
+ghost use Rattle.exchange_core.specs.ExchangeSide.{response_limit};
 ghost use Rattle.apdu_terminal.specs.Apdus.{Pair, Brings};
 ghost use Rattle.apdu_terminal.specs.ApduSide.{ComesTo, IsLimitedTo, IsResponding, KeepsData, answer_of, command_of, due_of, has_failed, response_fault};
 ghost use Rattle.apdu_terminal.specs.declared.stage.Stage.TheVariants as stage;

@@ -3,7 +3,7 @@ ghost use Rattle.std.specs.Prelude.{◌≡◌, ◌≤◌, ◌++◌, ◌∷◌, �
 ghost use Rattle.apdu_terminal.specs.declared.apdu_fault.CarryFault.{CarryFault};
 ghost use Rattle.apdu_core.specs.CommandBytes.{Command};
 ghost use Rattle.apdu_core.specs.StatusWord.{StatusWord, ok};
-ghost use Rattle.card_terminal.specs.declared.wanted.Wanted.{Wanted};
+ghost use Rattle.exchange_core.specs.declared.wanted.Wanted.{Wanted};
 ghost use Rattle.apdu_terminal.specs.declared.stage.Stage.TheVariants.{Done, Failed};
 ghost use Rattle.apdu_terminal.specs.Apdus.{Pair, Brings, StallsAt, IsTooLong, all_content};
 ghost use Rattle.apdu_terminal.specs.ApduSide.{ApduExchangeOf, ComesTo, due_of};
@@ -11,7 +11,8 @@ ghost use Rattle.std.specs.List.{flat_map};
 ghost use Rattle.apdu_terminal.specs.CardApdu.{HasFailed, Responds, RespondsToAll};
 ghost use Rattle.apdu_terminal.specs.ApduTalk.{AreApduTalksOf, IsApduTalkOf, talk_pairs};
 ghost use Rattle.object_card.specs.State.{CardState, is_idle};
-ghost use Rattle.object_card.specs.OneStep.{Operation, Reply, Answers, AnswersAll, SameTables};
+ghost use Rattle.apdu_core.specs.Shared.{Reply};
+ghost use Rattle.object_card.specs.OneStep.{Operation, Answers, AnswersAll, SameTables};
 ghost use Rattle.object_card.specs.CardMeaning.{Does};
 ghost use Rattle.object_card.specs.DataCard.{StandsFor};
 

@@ -10,7 +10,7 @@ ghost use Rattle.object_card.specs.DataCard.{StandsFor};
 ghost use Rattle.object_card.specs.Instructions.{MayReceive, MaySend};
 ghost use Rattle.object_card.specs.OneStep.{Operation};
 ghost use Rattle.object_card.specs.State.{CardState, IsCardState, is_idle};
-ghost use Rattle.card_terminal.specs.ExchangeSide.{response_limit};
+ghost use Rattle.exchange_core.specs.ExchangeSide.{response_limit};
 ghost use Rattle.apdu_terminal.specs.Apdus.{Pair};
 ghost use Rattle.apdu_terminal.specs.ApduOperations.{ApduOperationOf, HasRoomFor, IsTakingResponse, LeadsTo};
 ghost use Rattle.apdu_terminal.specs.ApduSide.{answered_by, due_of};

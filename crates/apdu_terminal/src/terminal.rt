@@ -3,7 +3,7 @@ ghost use Rattle.std.specs.Prelude.{◌≡◌, ◌≤◌, ◌<◌, ◌∷◌, []
 ghost use Rattle.std.specs.Option.{option_map};
 ghost use Rattle.object_card.specs.OneStep.{Select, Get, Put};
 ghost use Rattle.card_terminal.specs.Talk.{AreCommandsOf};
-ghost use Rattle.card_terminal.specs.ExchangeSide.{response_limit};
+ghost use Rattle.exchange_core.specs.ExchangeSide.{response_limit};
 ghost use Rattle.apdu_terminal.specs.ApduOperations.{ApduOperationOf, Begins, IsBeginning, IsOperationAnswer, IsTakingResponse, KeepsLimit, at_rest, is_under_way, may_follow, operation_due};
 
 mod operation;

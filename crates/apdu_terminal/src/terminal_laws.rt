@@ -8,7 +8,7 @@ ghost use Rattle.card_terminal.specs.TerminalSide.{OperationOf};
 ghost use Rattle.card_terminal.specs.TerminalSide as tpdus;
 ghost use Rattle.card_terminal.specs.declared.unsent.Unsent.{Unsent};
 ghost use Rattle.card_terminal.specs.Unsent.{IsUnsent};
-ghost use Rattle.object_card.specs.OneStep.{Reply};
+ghost use Rattle.apdu_core.specs.Shared.{Reply};
 ghost use Rattle.apdu_terminal.specs.declared.stage.Stage.TheVariants.{Done};
 ghost use Rattle.apdu_terminal.specs.Apdus.{Pair};
 ghost use Rattle.apdu_terminal.specs.ApduTalk.{AreApdusOf, talk_pairs};

@@ -6,11 +6,11 @@ use Rattle.t0_core.specs.CardSide.{EndOf, listens}
 use Rattle.t0_core.specs.Plan.{Cursor}
 use Rattle.t0_core.specs.Buffers.{Steps, HandsOut}
 use Rattle.object_card.specs.CardView.{CardView}
-use Rattle.card_terminal.specs.declared.handed_out.HandedOut.{HandedOut}
-use Rattle.card_terminal.specs.declared.taken.Taken.{Taken}
-use Rattle.card_terminal.specs.Buffers.{IsHandingOut, IsTakingAll}
-use Rattle.card_terminal.specs.ExchangeSide.{ExchangeOf}
-use Rattle.card_terminal.specs.ExchangeSteps.{IsTurn, IsTaking}
+use Rattle.exchange_core.specs.declared.handed_out.HandedOut.{HandedOut}
+use Rattle.exchange_core.specs.declared.taken.Taken.{Taken}
+use Rattle.exchange_core.specs.Buffers.{IsHandingOut, IsTakingAll}
+use Rattle.exchange_core.specs.ExchangeSide.{ExchangeOf}
+use Rattle.exchange_core.specs.ExchangeSteps.{IsTurn, IsTaking}
 use Rattle.card_terminal.specs.TerminalSide.{OperationOf}
 use Rattle.card_terminal.specs.TerminalSteps.{IsTerminalHandingOut, IsTerminalTaking}
 use Rattle.card_c.specs.declared.card_side.CardSide.{CardSide}

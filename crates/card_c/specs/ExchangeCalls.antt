@@ -10,14 +10,14 @@ use Rattle.t0_core.specs.declared.host_end.HostTurn.TheVariants.{Sends, Listens,
 use Rattle.t0_core.specs.declared.line_fault.LineFault.{LineFault}
 use Rattle.t0_core.specs.Front.{fresh}
 use Rattle.card_terminal.specs.declared.unsent.Unsent.{Unsent}
-use Rattle.card_terminal.specs.Unsent.{IsFirst}
-use Rattle.card_terminal.specs.ExchangeSide.{ExchangeOf, UnderWay, GoesByCharacters, exchange_turn, response_limit}
-use Rattle.card_terminal.specs.ExchangeSteps.{IsTurn, IsTaking, IsAnswer}
+use Rattle.exchange_core.specs.Unsent.{IsFirst}
+use Rattle.exchange_core.specs.ExchangeSide.{ExchangeOf, UnderWay, GoesByCharacters, exchange_turn, response_limit}
+use Rattle.exchange_core.specs.ExchangeSteps.{IsTurn, IsTaking, IsAnswer}
 use Rattle.apdu_terminal.specs.ApduOperations.{IsOperationAnswer, at_rest}
 use Rattle.card_c.specs.declared.apdu_side.ApduSide.{ApduSide}
 use Rattle.card_c.specs.declared.exchange_side.ExchangeSide.{ExchangeSide}
 use Rattle.card_c.specs.ApduCalls.{Opens}
-use Rattle.card_terminal.specs.ExchangeHistory.{ComesTo}
+use Rattle.exchange_core.specs.ExchangeHistory.{ComesTo}
 use Rattle.card_c.specs.Codes.{gt_ok, gt_sends, gt_done, gt_failed, gt_state, gt_memory, gt_argument, line_code, command_code}
 use Rattle.card_c.specs.Copying.{GoesOut}
 use Rattle.t0_core.specs.TpduBytes.{due_by}

@@ -4,11 +4,11 @@ use Rattle.std.specs.List.{flat_map}
 use Rattle.apdu_core.specs.declared.command.ApduFault.{ApduFault}
 use Rattle.apdu_core.specs.CommandBytes.{Command, IsCommand, command_bytes}
 use Rattle.t0_core.specs.Plan.{Course}
-use Rattle.object_card.specs.OneStep.{Reply}
+use Rattle.apdu_core.specs.Shared.{Reply}
 use Rattle.object_card.specs.CardMeaning.{Does}
 use Rattle.object_card.specs.Agreed.{IsAgreed}
 use Rattle.object_card.specs.Instructions.{MayReceive, MaySend}
-use Rattle.card_terminal.specs.Gathered.{UnitOf, Gathers, dialogues_of}
+use Rattle.exchange_core.specs.Gathered.{UnitOf, Gathers, dialogues_of}
 use Rattle.card_terminal.specs.Conversing.{point, HaveGone}
 use Rattle.card_c.specs.declared.card_side.CardSide.{CardSide}
 use Rattle.card_c.specs.declared.card_side.CardSide.TheVariants.{Joined}

@@ -1,7 +1,8 @@
 -- What the exports return that tell whether all data have left the terminal.
 use Rattle.std.specs.Prelude.{◌≡◌, ℤ, Option, Some, None, true, false}
 use Rattle.t0_core.specs.declared.data_sent.DataSent.{DataSent}
-use Rattle.card_terminal.specs.SentData.{TellsSent, TellsTerminalSent}
+use Rattle.exchange_core.specs.SentData.{TellsSent}
+use Rattle.card_terminal.specs.SentData.{TellsTerminalSent}
 use Rattle.card_c.specs.declared.exchange_side.ExchangeSide.{ExchangeSide}
 use Rattle.card_c.specs.declared.terminal_side.TerminalSide.{TerminalSide}
 use Rattle.card_c.specs.Codes.{gt_state, gt_sent_unknown, sent_code}

@@ -6,7 +6,8 @@ use Rattle.t0_core.specs.Watch.{Hearing, Hears}
 use Rattle.t0_core.specs.CardSide.{EndOf, Taking_header}
 use Rattle.object_card.specs.Tables.{IsAid}
 use Rattle.object_card.specs.State.{after_reset, is_idle}
-use Rattle.object_card.specs.OneStep.{Operation, Select, Get, Put, Reply, AnswersAll}
+use Rattle.apdu_core.specs.Shared.{Reply}
+use Rattle.object_card.specs.OneStep.{Operation, Select, Get, Put, AnswersAll}
 use Rattle.object_card.specs.CardMeaning.{Does}
 use Rattle.object_card.specs.CardView.{CardView}
 use Rattle.card_terminal.specs.Talk.{Talk}

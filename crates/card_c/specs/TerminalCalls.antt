@@ -11,7 +11,7 @@ use Rattle.object_card.specs.OneStep.{Select, Get, Put}
 use Rattle.card_terminal.specs.declared.terminal.begin_fault.BeginFault.{BeginFault}
 use Rattle.card_terminal.specs.declared.terminal.begin_fault.BeginFault.TheVariants.{OutOfMemory, UnderWay}
 use Rattle.card_terminal.specs.Talk.{AreCommandsOf}
-use Rattle.card_terminal.specs.ExchangeSide.{response_limit}
+use Rattle.exchange_core.specs.ExchangeSide.{response_limit}
 use Rattle.card_terminal.specs.TerminalSide.{TerminalOf, OperationOf, KeepsLimit, at_rest, is_going}
 use Rattle.card_terminal.specs.TerminalSteps.{IsBeginning, IsTerminalTurn, IsTerminalTaking, IsTerminalAnswering, IsTerminalAnswer, terminal_due}
 use Rattle.card_c.specs.declared.terminal_side.TerminalSide.{TerminalSide}

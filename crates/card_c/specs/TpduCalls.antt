@@ -3,8 +3,8 @@ use Rattle.std.specs.Prelude.{◌≡◌, ◌⊎◌, ℕ, ℤ, ◌<◌, List, [],
 use Rattle.apdu_core.specs.StatusWord.{StatusWord, IsStatusWord}
 use Rattle.t0_core.specs.declared.answer_fault.AnswerFault.{AnswerFault}
 use Rattle.t0_core.specs.TpduBytes.{Asked, tpdu_bytes}
-use Rattle.card_terminal.specs.ExchangeSide.{ExchangeOf}
-use Rattle.card_terminal.specs.ExchangeSteps.{IsAnswering}
+use Rattle.exchange_core.specs.ExchangeSide.{ExchangeOf}
+use Rattle.exchange_core.specs.ExchangeSteps.{IsAnswering}
 use Rattle.card_c.specs.Codes.{gt_ok, gt_buffer, gt_not_due, gt_no_status, answer_code}
 
 -- The next TPDU is written, and the most bytes of its answer. Without one, or if it does not fit,

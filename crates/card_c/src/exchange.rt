@@ -1,6 +1,6 @@
 //! The exports of a terminal's exchange of one command, character by character.
 ghost use Rattle.std.specs.Prelude.{◌≡◌, ⊤, IfOk, IfErr, None, Some};
-ghost use Rattle.card_terminal.specs.ExchangeSide.{response_limit};
+ghost use Rattle.exchange_core.specs.ExchangeSide.{response_limit};
 ghost use Rattle.card_c.specs.Handles.{exchange_in, OnHandle, OnHandleOr, OnLook};
 ghost use Rattle.card_c.specs.ExchangeCalls.{IsRefused, HasBegun, Starts, ByTpdus, TurnsTo, TakesByte, TellsAnswerOf};
 

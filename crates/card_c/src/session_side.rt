@@ -1,6 +1,6 @@
 //! A session with a card, as a handle holds it.
 ghost use Rattle.std.specs.Prelude.{◌≡◌, [], None, IfOk, OnErr};
-ghost use Rattle.card_terminal.specs.ExchangeSide.{response_limit};
+ghost use Rattle.exchange_core.specs.ExchangeSide.{response_limit};
 
 use crate::listener::Listener;
 use card_terminal::{HeldAnswer, RESPONSE_LIMIT, Session};

@@ -4,7 +4,7 @@ ghost use Rattle.apdu_core.specs.declared.command.ApduFault.{ApduFault};
 ghost use Rattle.apdu_core.specs.CommandBytes.{IsCommand, command_bytes};
 ghost use Rattle.card_c.specs.Codes.{gt_state, command_code};
 ghost use Rattle.card_c.specs.ExchangeCalls.{AreNone};
-ghost use Rattle.card_terminal.specs.ExchangeSide.{response_limit};
+ghost use Rattle.exchange_core.specs.ExchangeSide.{response_limit};
 ghost use Rattle.card_terminal.specs.TerminalSide.{KeepsLimit, is_going};
 ghost use Rattle.card_c.specs.Handles.{terminal_in, OnHandle, OnHandleOr, OnLook};
 ghost use Rattle.card_c.specs.TerminalCalls.{HasBegun, KeepsRoom, OnBegin, OnTpdus, TellsTpduOf, BeginsSelect, BeginsGet, BeginsPut, BeginsSend, Resets, TakesTurn, TakesCharacter, TakesAnswer, TellsAnswer, begin_code};

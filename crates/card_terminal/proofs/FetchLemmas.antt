@@ -12,12 +12,13 @@ use Rattle.t0_core.specs.Meaning.{Tpdu, tpdu_of, received, sent, Runs}
 use Rattle.t0_core.specs.Plan.{Course, IsCut}
 use Rattle.object_card.specs.State.{CardState, IsCardState}
 use Rattle.object_card.specs.CardMeaning.{Does}
-use Rattle.object_card.specs.CarryingOut.{get_response, FetchAll}
+use Rattle.apdu_core.specs.Shared.{get_response}
+use Rattle.object_card.specs.CarryingOut.{FetchAll}
 use Rattle.object_card.specs.StateLaws.{stays_sound}
 use Rattle.object_card.specs.ResponseLaws.{announced_is_brought}
-use Rattle.card_terminal.specs.declared.wanted.Wanted.TheVariants.{Everything}
-use Rattle.card_terminal.specs.declared.wanted.Wanted.{Wanted}
-use Rattle.card_terminal.specs.Gathered.{UnitOf, Opens, By_command, Gathers, after_dialogue, Single, Repeated, By_fetch, first_of, last_of, dialogues_of, unit_data, after_unit, fetched_of, fetched_after, repeated_with, correction_of, Opening, OpensWith, IsUnit, AreFollowed}
+use Rattle.exchange_core.specs.declared.wanted.Wanted.TheVariants.{Everything}
+use Rattle.exchange_core.specs.declared.wanted.Wanted.{Wanted}
+use Rattle.exchange_core.specs.Gathered.{UnitOf, Opens, By_command, Gathers, after_dialogue, Single, Repeated, By_fetch, first_of, last_of, dialogues_of, unit_data, after_unit, fetched_of, fetched_after, repeated_with, correction_of, Opening, OpensWith, IsUnit, AreFollowed}
 use Rattle.card_terminal.specs.Talk.{HaveCuts}
 
 -- the card goes from state to state by these dialogues, each under some cut

@@ -16,14 +16,14 @@ use Rattle.t0_core.specs.HostSide.{turn_of}
 use Rattle.object_card.specs.CarryingOut.{put_header}
 use Rattle.object_card.specs.OneStep.{Put}
 use Rattle.card_terminal.specs.Talk.{AreCommandsOf}
-use Rattle.card_terminal.specs.ExchangeSide.{ExchangeOf, UnderWay, GoesByCharacters, exchange_turn}
-use Rattle.card_terminal.specs.ExchangeHistory.{ComesTo}
-use Rattle.card_terminal.specs.OwnedExchange.{ExchangeMarkOf, over_data, IsSound}
+use Rattle.exchange_core.specs.ExchangeSide.{ExchangeOf, UnderWay, GoesByCharacters, exchange_turn}
+use Rattle.exchange_core.specs.ExchangeHistory.{ComesTo}
+use Rattle.exchange_core.specs.OwnedExchange.{ExchangeMarkOf, over_data, IsSound}
 use Rattle.card_terminal.specs.OperationRoom.{IsPart, BeginsWith}
 use Rattle.card_terminal.specs.TerminalSide.{OperationOf, AreLeft, LeadsTo, GoesToNext, GoByCharacters, operation_sent}
 use Rattle.card_terminal.specs.PieceLaws.{IsFrontOf, left_is, left_after, chain_of, opening_front, next_front, rest_seen}
-use Rattle.card_terminal.proofs.OwnedLemmas.{bounded}
-use Rattle.card_terminal.proofs.TurnLemmas.{opening_turn}
+use Rattle.exchange_core.proofs.OwnedLemmas.{bounded}
+use Rattle.exchange_core.proofs.TurnLemmas.{opening_turn}
 use Rattle.card_terminal.proofs.TerminalLemmas.{one_begins, first_begins}
 
 pub part_of : (items content : List ℕ) (from until : ℕ) (ex : ExchangeMarkOf)

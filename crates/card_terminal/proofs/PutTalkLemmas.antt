@@ -7,12 +7,12 @@ use Rattle.apdu_core.specs.Chaining.{link, chain_commands}
 use Rattle.t0_core.specs.Dialogue.{Dialogue}
 use Rattle.t0_core.specs.Meaning.{tpdu_of, received}
 use Rattle.object_card.specs.State.{CardState}
-use Rattle.object_card.specs.OneStep.{Reply}
+use Rattle.apdu_core.specs.Shared.{Reply}
 use Rattle.object_card.specs.CardMeaning.{Does}
 use Rattle.object_card.specs.CarryingOut.{Carries, IsAnswered, EndsWith}
-use Rattle.card_terminal.specs.declared.wanted.Wanted.{Wanted}
-use Rattle.card_terminal.specs.declared.wanted.Wanted.TheVariants.{Bytes}
-use Rattle.card_terminal.specs.Gathered.{UnitOf, Single, Repeated, Opening, By_command, Opens, OpensWith, SendsFrom, Gathers, first_of, last_of, dialogues_of, unit_data, after_dialogue, less, fetched_of, correction_of, IsUnit, AreFollowed}
+use Rattle.exchange_core.specs.declared.wanted.Wanted.{Wanted}
+use Rattle.exchange_core.specs.declared.wanted.Wanted.TheVariants.{Bytes}
+use Rattle.exchange_core.specs.Gathered.{UnitOf, Single, Repeated, Opening, By_command, Opens, OpensWith, SendsFrom, Gathers, first_of, last_of, dialogues_of, unit_data, after_dialogue, less, fetched_of, correction_of, IsUnit, AreFollowed}
 use Rattle.card_terminal.specs.Talk.{AreExchangesOf, talk_dialogues}
 use Rattle.card_terminal.specs.TalkLaws.{chains_end}
 use Rattle.card_terminal.proofs.FetchLemmas.{Goes, goes_apart, sent_data, received_none}

@@ -22,19 +22,20 @@ use Rattle.t0_core.specs.WatchLaws.{hears_more, hears_nothing}
 use Rattle.object_card.specs.State.{CardState, IsCardState, is_idle}
 use Rattle.object_card.specs.CardMeaning.{Does}
 use Rattle.object_card.specs.DataCard.{StandsFor}
-use Rattle.object_card.specs.OneStep.{Operation, Reply, AnswersAll}
+use Rattle.apdu_core.specs.Shared.{Reply}
+use Rattle.object_card.specs.OneStep.{Operation, AnswersAll}
 use Rattle.card_terminal.specs.declared.operation.Op.{Op}
-use Rattle.card_terminal.specs.Gathered.{Gathers, Opening, By_command, By_fetch, UnitOf, dialogues_of, repeated_with}
-use Rattle.card_terminal.specs.declared.wanted.Wanted.{Wanted}
-use Rattle.card_terminal.specs.ExchangeSide.{ExchangeOf, exchange_turn, HostOpensBy, IsOver, IsOpenedAs, so_far}
+use Rattle.exchange_core.specs.Gathered.{Gathers, Opening, By_command, By_fetch, UnitOf, dialogues_of, repeated_with}
+use Rattle.exchange_core.specs.declared.wanted.Wanted.{Wanted}
+use Rattle.exchange_core.specs.ExchangeSide.{ExchangeOf, exchange_turn, HostOpensBy, IsOver, IsOpenedAs, so_far}
 use Rattle.card_terminal.specs.Conversing.{Point, point, HaveGone, HasOverflown, IsCaused}
 use Rattle.card_terminal.specs.Talk.{AreTakenUpTo, HaveCuts, Talk, AreCommandsOf, AreExchangesOf, IsTalkOf, talk_dialogues}
 use Rattle.card_terminal.specs.Operations.{operation_of}
 use Rattle.card_terminal.specs.Running.{new_answers, carried_out}
 use Rattle.card_terminal.specs.RunLaws.{HaveReplies, no_replies, one_more_reply, replies_come}
 use Rattle.card_terminal.proofs.FetchLemmas.{Goes, goes_by_runs, goes_sound}
-use Rattle.card_terminal.proofs.OwnedLemmas.{same_done}
-use Rattle.card_terminal.proofs.ComesToLemmas.{over_turn}
+use Rattle.exchange_core.proofs.OwnedLemmas.{same_done}
+use Rattle.exchange_core.proofs.ComesToLemmas.{over_turn}
 use Rattle.card_terminal.proofs.GoneLemmas.{gone_both}
 use Rattle.card_terminal.proofs.BoundLemmas.{so_far_brings, never_stalls}
 use Rattle.card_terminal.proofs.TalkLemmas.{own_talk_answers}

@@ -29,25 +29,25 @@ use Rattle.t0_core.specs.CardHistory.{under_way}
 use Rattle.t0_core.specs.CardSending.{IsHandedOut}
 use Rattle.t0_core.specs.CardTaking.{IsTaken}
 use Rattle.t0_core.specs.Buffers.{Steps}
-use Rattle.card_terminal.specs.ExchangeSteps.{SendsOne, TakesOne}
+use Rattle.exchange_core.specs.ExchangeSteps.{SendsOne, TakesOne}
 use Rattle.t0_core.specs.CardLaws.{begun, answers_on, taken_stays}
 use Rattle.card_terminal.specs.Line as on_line
 use Rattle.t0_core.specs.FrontLaws.{goes_on}
 use Rattle.t0_core.specs.WatchLaws.{hears_more, hears_nothing}
 use Rattle.t0_core.specs.DialogueLaws.{ends_with}
-use Rattle.card_terminal.specs.declared.wanted.Wanted.{Wanted}
-use Rattle.card_terminal.specs.declared.wanted.Wanted.TheVariants.{Bytes}
-use Rattle.object_card.specs.CarryingOut.{get_response}
-use Rattle.card_terminal.specs.Gathered.{wanted_by, less, after_dialogue, after_unit, fetched_of, fetched_after, Opening, By_command, By_fetch, OpensWith, UnitOf, last_of, unit_data, AreFollowed, Gathers, dialogues_of}
-use Rattle.object_card.specs.OneStep.{Reply}
+use Rattle.exchange_core.specs.declared.wanted.Wanted.{Wanted}
+use Rattle.exchange_core.specs.declared.wanted.Wanted.TheVariants.{Bytes}
+use Rattle.apdu_core.specs.Shared.{get_response}
+use Rattle.exchange_core.specs.Gathered.{wanted_by, less, after_dialogue, after_unit, fetched_of, fetched_after, Opening, By_command, By_fetch, OpensWith, UnitOf, last_of, unit_data, AreFollowed, Gathers, dialogues_of}
+use Rattle.apdu_core.specs.Shared.{Reply}
 use Rattle.object_card.specs.Agreed.{IsAgreed}
-use Rattle.card_terminal.specs.ExchangeSide.{ExchangeOf, HostAsks, HostSends, HostOpensBy, IsOpenedAs, UnderWay, IsOver, IsBounded, Stall, Continues, so_far, ended_with, exchange_turn, response_limit}
+use Rattle.exchange_core.specs.ExchangeSide.{ExchangeOf, HostAsks, HostSends, HostOpensBy, IsOpenedAs, UnderWay, IsOver, IsBounded, Stall, Continues, so_far, ended_with, exchange_turn, response_limit}
 use Rattle.card_terminal.specs.Conversing.{Point, point, next_plan, HaveGone, HasStalled, HasOverflown, IsCaused, here, steps_in, is_done, most_tpdus}
 use Rattle.card_terminal.specs.Line.{Line, Start, line, HearsOne, point_of, Begins, left, IsAtPlan, StandsUnder, IsGoing, IsDone, IsOneOf, HasPassed}
 use Rattle.card_terminal.proofs.GoneLemmas.{none_gone, one_gone, gone_both}
-use Rattle.card_terminal.proofs.UnitLemmas.{unit_ends, unit_goes_on, unit_dialogues}
-use Rattle.card_terminal.proofs.EndLemmas.{asked_card}
-use Rattle.card_terminal.proofs.ComesToLemmas.{over_turn}
+use Rattle.exchange_core.proofs.UnitLemmas.{unit_ends, unit_goes_on, unit_dialogues}
+use Rattle.exchange_core.proofs.EndLemmas.{asked_card}
+use Rattle.exchange_core.proofs.ComesToLemmas.{over_turn}
 
 -- ---- plans in turn
 

@@ -9,13 +9,14 @@ use Rattle.t0_core.specs.Plan.{Course}
 use Rattle.tlv_core.specs.Address.{NamesTag}
 use Rattle.object_card.specs.Tables.{IsAid}
 use Rattle.object_card.specs.State.{CardState, IsCardState, is_idle}
-use Rattle.object_card.specs.OneStep.{Operation, Select, Get, Put, Reply, AnswersAll}
+use Rattle.apdu_core.specs.Shared.{Reply}
+use Rattle.object_card.specs.OneStep.{Operation, Select, Get, Put, AnswersAll}
 use Rattle.object_card.specs.DataCard.{StandsFor}
 use Rattle.object_card.specs.CardMeaning.{Does}
 use Rattle.object_card.specs.CarryingOut.{put_header, IsCarriedOut}
 use Rattle.object_card.specs.PutRunLaws.{chain_is_put}
-use Rattle.card_terminal.specs.Gathered.{UnitOf, Opens, Gathers, first_of, dialogues_of, IsUnit}
-use Rattle.card_terminal.specs.declared.wanted.Wanted.TheVariants.{Everything}
+use Rattle.exchange_core.specs.Gathered.{UnitOf, Opens, Gathers, first_of, dialogues_of, IsUnit}
+use Rattle.exchange_core.specs.declared.wanted.Wanted.TheVariants.{Everything}
 use Rattle.card_terminal.specs.Talk.{AreExchangesOf, IsTalkOf, AreTalksOf, Talk, talk_dialogues, select_command, get_command, HaveCuts}
 use Rattle.card_terminal.proofs.FetchLemmas.{Goes, goes_by_runs, goes_apart, goes_sound, begun, Rest, sent_once}
 use Rattle.card_terminal.proofs.OperationLemmas.{select_answers, get_answers}

@@ -14,8 +14,9 @@ use Rattle.t0_core.specs.Plan.{Course, FollowInTurn}
 use Rattle.object_card.specs.State.{CardState}
 use Rattle.object_card.specs.CardMeaning.{Does}
 use Rattle.object_card.specs.DataCard.{StandsFor}
-use Rattle.object_card.specs.OneStep.{Operation, Reply}
-use Rattle.card_terminal.specs.Gathered.{UnitOf, Gathers, dialogues_of}
+use Rattle.apdu_core.specs.Shared.{Reply}
+use Rattle.object_card.specs.OneStep.{Operation}
+use Rattle.exchange_core.specs.Gathered.{UnitOf, Gathers, dialogues_of}
 use Rattle.card_terminal.specs.TalkLaws.{talks_more}
 use Rattle.card_terminal.specs.Talk.{AreTakenUpTo, AreExchangesOf, AreTalksOf, IsTalkOf, Talk, talk_dialogues}
 

@@ -15,12 +15,13 @@ use Rattle.t0_core.specs.Meaning.{Runs}
 use Rattle.t0_core.specs.Plan.{Course, Follows, segments_of}
 use Rattle.object_card.specs.Tables.{Entry}
 use Rattle.object_card.specs.State.{CardState, NothingPending, ResponsePending}
-use Rattle.object_card.specs.OneStep.{Operation, Select, Get, Put, Reply, reply, stores, stored}
+use Rattle.apdu_core.specs.Shared.{Reply, reply}
+use Rattle.object_card.specs.OneStep.{Operation, Select, Get, Put, stores, stored}
 use Rattle.object_card.specs.CardMeaning.{Does, refuses, selects_application, sends, puts_value}
-use Rattle.card_terminal.specs.declared.wanted.Wanted.{Wanted}
-use Rattle.card_terminal.specs.Gathered.{UnitOf, IsUnit, wanted_by, after_unit, fetched_after, last_of, Single, Repeated, By_command, Gathers, AreFollowed}
+use Rattle.exchange_core.specs.declared.wanted.Wanted.{Wanted}
+use Rattle.exchange_core.specs.Gathered.{UnitOf, IsUnit, wanted_by, after_unit, fetched_after, last_of, Single, Repeated, By_command, Gathers, AreFollowed}
 use Rattle.card_terminal.specs.Talk.{select_command, get_command, Talk}
-use Rattle.card_terminal.proofs.Vectors as row
+use Rattle.exchange_core.proofs.Vectors as row
 
 abbrev aid : List ℕ
 aid = 0xA0 ∷ 0x00 ∷ 0x00 ∷ 0x00 ∷ 0x03 ∷ 0x10 ∷ 0x10 ∷ []

@@ -7,15 +7,15 @@ use Rattle.t0_core.specs.declared.host_end.HostTurn.TheVariants.{Sends, Done, Fa
 use Rattle.t0_core.specs.declared.line_fault.LineFault.{LineFault}
 use Rattle.t0_core.specs.declared.line_fault.LineFault.TheVariants.{AfterEnd, NotListening}
 use Rattle.t0_core.specs.Buffers.{Steps}
-use Rattle.card_terminal.specs.declared.handed_out.HandedOut.{HandedOut}
-use Rattle.card_terminal.specs.declared.taken.Taken.{Taken}
-use Rattle.card_terminal.specs.Buffers.{IsHandingOut, IsTakingAll}
+use Rattle.exchange_core.specs.declared.handed_out.HandedOut.{HandedOut}
+use Rattle.exchange_core.specs.declared.taken.Taken.{Taken}
+use Rattle.exchange_core.specs.Buffers.{IsHandingOut, IsTakingAll}
 use Rattle.card_terminal.specs.Conversing.{is_done}
-use Rattle.card_terminal.specs.ExchangeSide.{ExchangeOf, IsBounded, exchange_turn, is_final}
-use Rattle.card_terminal.specs.ExchangeSteps.{IsTurn, IsTaking, SendsOne, TakesOne}
+use Rattle.exchange_core.specs.ExchangeSide.{ExchangeOf, IsBounded, exchange_turn, is_final}
+use Rattle.exchange_core.specs.ExchangeSteps.{IsTurn, IsTaking, SendsOne, TakesOne}
 use Rattle.card_terminal.specs.TerminalSide.{OperationOf, IsSettled, GoesOver, GoesToNext, with_exchange}
 use Rattle.card_terminal.specs.TerminalSteps.{IsTerminalTurn, IsTerminalHandingOut, IsTerminalTaking}
-use Rattle.card_terminal.proofs.TurnLemmas.{not_listening}
+use Rattle.exchange_core.proofs.TurnLemmas.{not_listening}
 use Rattle.card_terminal.proofs.TerminalStepLemmas.{turns, takes, stays}
 
 -- a turn of a terminal with an operation

@@ -8,16 +8,16 @@ use Rattle.apdu_core.specs.CommandBytes.{Command}
 use Rattle.t0_core.specs.declared.host_end.HostTurn.TheVariants.{Done, Failed}
 use Rattle.t0_core.specs.Character.{Character}
 use Rattle.t0_core.specs.Dialogue.{IsDialogue, characters}
-use Rattle.object_card.specs.OneStep.{Reply}
-use Rattle.card_terminal.specs.Gathered.{UnitOf, dialogues_of, unit_data, tpdus}
+use Rattle.apdu_core.specs.Shared.{Reply}
+use Rattle.exchange_core.specs.Gathered.{UnitOf, dialogues_of, unit_data, tpdus}
 use Rattle.card_terminal.specs.Talk.{AreTakenUpTo, AreExchangesOf, talk_dialogues, talk_characters}
-use Rattle.card_terminal.specs.ExchangeSide.{ExchangeOf, exchange_turn}
-use Rattle.card_terminal.specs.ExchangeHistory.{ComesTo, Expects, BeginsExchange, FaultCameLast, unit_characters}
+use Rattle.exchange_core.specs.ExchangeSide.{ExchangeOf, exchange_turn}
+use Rattle.exchange_core.specs.ExchangeHistory.{ComesTo, Expects, BeginsExchange, FaultCameLast, unit_characters}
 use Rattle.card_terminal.specs.TerminalSide.{OperationOf, AreLeft, HasCome, LeadsTo, IsSettled}
 use Rattle.card_terminal.specs.TerminalHistory.{HaveValidIns, HaveRoom, brought_by}
-use Rattle.card_terminal.proofs.CuttingLemmas.{AreAll, Comes, ends, continues, if_room, at_end, at_character, not_failed, is_whole, split_all, none_before, comes, led_within, same_whole}
-use Rattle.card_terminal.proofs.PrefixLemmas.{led_begins}
-use Rattle.card_terminal.proofs.UnitLemmas.{few_tpdus}
+use Rattle.exchange_core.proofs.CuttingLemmas.{AreAll, Comes, ends, continues, if_room, at_end, at_character, not_failed, is_whole, split_all, none_before, comes, led_within, same_whole}
+use Rattle.exchange_core.proofs.PrefixLemmas.{led_begins}
+use Rattle.exchange_core.proofs.UnitLemmas.{few_tpdus}
 use Rattle.card_terminal.proofs.TerminalLemmas.{come_as, none_left}
 
 -- the characters of one exchange, and of those after it

@@ -12,12 +12,12 @@ use Rattle.t0_core.specs.DataSent.{both, sent_in_all, Tells}
 use Rattle.t0_core.specs.DataSentLaws.{tells_both, sent_in-append}
 use Rattle.t0_core.specs.Character.{Character}
 use Rattle.t0_core.specs.Dialogue.{IsDialogue, characters}
-use Rattle.card_terminal.specs.Gathered.{UnitOf, dialogues_of}
+use Rattle.exchange_core.specs.Gathered.{UnitOf, dialogues_of}
 use Rattle.card_terminal.specs.Talk.{AreExchangesOf, talk_dialogues, talk_characters}
-use Rattle.card_terminal.specs.ExchangeSide.{ExchangeOf, exchange_turn, exchange_sent}
-use Rattle.card_terminal.specs.ExchangeHistory.{ComesTo, unit_characters}
+use Rattle.exchange_core.specs.ExchangeSide.{ExchangeOf, exchange_turn, exchange_sent}
+use Rattle.exchange_core.specs.ExchangeHistory.{ComesTo, unit_characters}
 use Rattle.card_terminal.specs.TerminalSide.{OperationOf, AreLeft, HasCome, LeadsThrough, IsSettled, GoesToNext, GoesOver, operation_sent, with_exchange}
-use Rattle.card_terminal.proofs.ComesToLemmas.{end_leads}
+use Rattle.exchange_core.proofs.ComesToLemmas.{end_leads}
 use Rattle.card_terminal.proofs.TalkListLemmas.{taken_more, taken_to_end, one_more_exchange, all_both}
 use Rattle.card_terminal.specs.TalkLaws.{is_ok_or_not}
 

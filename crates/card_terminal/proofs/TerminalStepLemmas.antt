@@ -19,10 +19,10 @@ use Rattle.t0_core.specs.DataSentLaws.{known_both}
 use Rattle.t0_core.specs.HostSide.{data_sent}
 use Rattle.t0_core.specs.HostAnswer.{fails_with}
 use Rattle.card_terminal.specs.Conversing.{is_done}
-use Rattle.card_terminal.specs.ExchangeSide.{ExchangeOf, IsBounded, IsAtEnd, GoesByCharacters, exchange_turn, exchange_sent, is_final}
-use Rattle.card_terminal.specs.ExchangeHistory.{ComesTo, ComesTooFar}
-use Rattle.card_terminal.specs.ExchangeSteps.{IsTurn, IsTaking, IsAnswering, IsAnswer}
-use Rattle.card_terminal.specs.Gathered.{UnitOf}
+use Rattle.exchange_core.specs.ExchangeSide.{ExchangeOf, IsBounded, IsAtEnd, GoesByCharacters, exchange_turn, exchange_sent, is_final}
+use Rattle.exchange_core.specs.ExchangeHistory.{ComesTo, ComesTooFar}
+use Rattle.exchange_core.specs.ExchangeSteps.{IsTurn, IsTaking, IsAnswering, IsAnswer}
+use Rattle.exchange_core.specs.Gathered.{UnitOf}
 use Rattle.card_terminal.specs.Talk.{AreExchangesOf, talk_characters}
 use Rattle.card_terminal.specs.TerminalSide.{OperationOf, TerminalOf, LeadsThrough, LeadsThroughTooFar, LeadsTo, IsSettled, GoesOver, GoByCharacters, operation_sent, with_exchange}
 use Rattle.card_terminal.specs.TerminalSteps.{IsTerminalTurn, IsTerminalTaking, IsTerminalAnswering, IsTerminalAnswer}

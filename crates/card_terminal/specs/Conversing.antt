@@ -13,9 +13,9 @@ use Rattle.t0_core.specs.Meaning.{Tpdu, Prepared, Runs, received}
 use Rattle.t0_core.specs.Front.{Front, GoesOn, front_characters, brought}
 use Rattle.t0_core.specs.Watch.{Hearing, Hears}
 use Rattle.t0_core.specs.CardSide.{Stage, Taking_header, Refusing, Serving, Ending, StandsAt, IsOnPlan, still_to_go}
-use Rattle.card_terminal.specs.Gathered.{UnitOf, dialogues_of}
+use Rattle.exchange_core.specs.Gathered.{UnitOf, dialogues_of}
 use Rattle.card_terminal.specs.Talk.{HaveCuts}
-use Rattle.card_terminal.specs.ExchangeSide.{ExchangeOf, UnderWay, Stall, so_far, exchange_turn, response_limit}
+use Rattle.exchange_core.specs.ExchangeSide.{ExchangeOf, UnderWay, Stall, so_far, exchange_turn, response_limit}
 
 -- the plan of the next TPDU: the first of the list, or one without steps if the list is empty
 abbrev pub next_plan : List Course → Course

@@ -5,8 +5,9 @@ use Rattle.card_terminal.specs.declared.session_fault.SessionFault.{SessionFault
 use Rattle.card_terminal.specs.declared.session_fault.SessionFault.TheVariants.{OutOfMemory, Line}
 use Rattle.card_terminal.specs.declared.terminal.begin_fault.BeginFault.{BeginFault}
 use Rattle.card_terminal.specs.declared.terminal.begin_fault.BeginFault.TheVariants as begin
-use Rattle.card_terminal.specs.declared.start_fault.StartFault.{StartFault}
-use Rattle.card_terminal.specs.declared.start_fault.StartFault.TheVariants as start
+use Rattle.exchange_core.specs.declared.start_fault.StartFault.{StartFault}
+use Rattle.exchange_core.specs.declared.start_fault.StartFault.TheVariants as start
+use Rattle.exchange_core.specs.FaultText.{start_text}
 
 -- why a session has no answer to a command
 abbrev pub session_text : SessionFault → List ℕ
@@ -17,8 +18,3 @@ session_text (Line fault) = fault_text fault
 abbrev pub begin_text : BeginFault → List ℕ
 begin_text begin.OutOfMemory = codes "out of memory"
 begin_text begin.UnderWay = codes "an operation is under way"
-
--- why no exchange or terminal was made with a limit
-abbrev pub start_text : StartFault → List ℕ
-start_text start.OutOfMemory = codes "out of memory"
-start_text start.OverLimit = codes "the limit is over 16384 bytes"

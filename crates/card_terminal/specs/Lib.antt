@@ -1,17 +1,9 @@
-pub mod Gathered
-pub mod Attempts
-pub mod Buffers
-pub mod ExchangeSide
 pub mod Conversing
-pub mod ExchangeHistory
-pub mod ExchangeSteps
 pub mod SentData
-pub mod OwnedExchange
 pub mod Talk
 pub mod AnswerList
 pub mod Operations
 pub mod Line
-pub mod OneObject
 pub mod FaultText
 pub mod Running
 pub mod AgreedLaws

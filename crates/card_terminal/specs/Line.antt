@@ -12,8 +12,8 @@ use Rattle.t0_core.specs.Dialogue.{Dialogue}
 use Rattle.t0_core.specs.Front.{Front, front_characters, fresh}
 use Rattle.t0_core.specs.Plan.{Cursor, IsCut, advanced}
 use Rattle.t0_core.specs.Watch.{Hearing, Hears}
-use Rattle.card_terminal.specs.ExchangeSide.{ExchangeOf, UnderWay, IsOver, so_far, response_limit}
-use Rattle.card_terminal.specs.Gathered.{UnitOf, dialogues_of}
+use Rattle.exchange_core.specs.ExchangeSide.{ExchangeOf, UnderWay, IsOver, so_far, response_limit}
+use Rattle.exchange_core.specs.Gathered.{UnitOf, dialogues_of}
 use Rattle.object_card.specs.Agreed.{IsAgreed}
 use Rattle.card_terminal.specs.Conversing.{Point, point, next_plan, HaveGone, IsCaused, characters_left}
 

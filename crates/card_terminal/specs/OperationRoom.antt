@@ -2,9 +2,9 @@
 use Rattle.std.specs.Prelude.{◌≡◌, ℕ, ◌≤◌, List, [], length, drop, true}
 use Rattle.apdu_core.specs.CommandBytes.{Command}
 use Rattle.t0_core.specs.declared.data_sent.DataSent.TheVariants.{All}
-use Rattle.card_terminal.specs.ExchangeSide.{ExchangeOf, GoesByCharacters}
-use Rattle.card_terminal.specs.ExchangeHistory.{ComesTo}
-use Rattle.card_terminal.specs.OwnedExchange.{IsSound}
+use Rattle.exchange_core.specs.ExchangeSide.{ExchangeOf, GoesByCharacters}
+use Rattle.exchange_core.specs.ExchangeHistory.{ComesTo}
+use Rattle.exchange_core.specs.OwnedExchange.{IsSound}
 use Rattle.card_terminal.specs.TerminalSide.{OperationOf, IsSettled}
 
 -- the data of the current command are those from `from` to `until` of the operation's data, and the

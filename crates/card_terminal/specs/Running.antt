@@ -1,6 +1,7 @@
 -- The operations of a list that a session has carried out, and their answers.
 use Rattle.std.specs.Prelude.{List, length, take, drop, map}
-use Rattle.object_card.specs.OneStep.{Operation, Reply}
+use Rattle.apdu_core.specs.Shared.{Reply}
+use Rattle.object_card.specs.OneStep.{Operation}
 use Rattle.card_terminal.specs.declared.operation.Op.{Op}
 use Rattle.card_terminal.specs.Operations.{operation_of}
 

@@ -9,25 +9,12 @@ use Rattle.t0_core.specs.Dialogue.{Body, Dialogue}
 use Rattle.t0_core.specs.Front.{In_body, After_first}
 use Rattle.t0_core.specs.declared.host_end.HostTurn.TheVariants.{Done}
 use Rattle.t0_core.specs.Character.{Character}
-use Rattle.object_card.specs.OneStep.{Reply}
+use Rattle.apdu_core.specs.Shared.{Reply}
 use Rattle.card_terminal.specs.Talk.{AreExchangesOf, talk_dialogues, talk_characters}
 use Rattle.card_terminal.specs.TerminalSide.{OperationOf, LeadsTo, GoByCharacters, operation_sent, terminal_turn}
-use Rattle.card_terminal.specs.Gathered.{UnitOf, dialogues_of}
-use Rattle.card_terminal.specs.ExchangeSide.{ExchangeOf, UnderWay, IsOver, GoesByCharacters, so_far, exchange_sent}
-
--- It is what the dialogues that have ended and the one in progress have moved to the card. It is
--- known if all went character by character.
-pub record TellsSent (ex : ExchangeOf) (sent : DataSent) : Type 0 where
-  pub value : sent ≡ exchange_sent ex
-  pub known : GoesByCharacters ex → IsKnown sent
-  pub in_body : (c : Command) (units : List UnitOf) (first : Option Dialogue) (b : Body)
-      → UnderWay c ex units first (In_body b)
-      → Tells sent (both (sent_in_all (so_far units first)) (sent_in b))
-  pub after_sw1 : (c : Command) (units : List UnitOf) (first : Option Dialogue) (b : Body)
-      (sw1 : ℕ) → UnderWay c ex units first (After_first b sw1)
-      → Tells sent (both (sent_in_all (so_far units first)) (sent_in b))
-  pub over : (c : Command) (units : List UnitOf) (status : StatusWord) → IsOver c ex units status
-      → Tells sent (sent_in_all (flat_map dialogues_of units))
+use Rattle.exchange_core.specs.Gathered.{UnitOf, dialogues_of}
+use Rattle.exchange_core.specs.ExchangeSide.{ExchangeOf, UnderWay, IsOver, GoesByCharacters, so_far, exchange_sent}
+use Rattle.exchange_core.specs.SentData.{TellsSent}
 
 abbrev pub terminal_sent : Option OperationOf → Option DataSent
 terminal_sent None = None

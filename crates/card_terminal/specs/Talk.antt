@@ -11,9 +11,10 @@ use Rattle.t0_core.specs.Dialogue.{Dialogue, IsDialogue, characters}
 use Rattle.t0_core.specs.Meaning.{Tpdu, Runs}
 use Rattle.t0_core.specs.Plan.{Course, IsCut, FollowInTurn}
 use Rattle.object_card.specs.Tables.{IsAid}
-use Rattle.object_card.specs.OneStep.{Operation, Select, Get, Put, Reply}
+use Rattle.apdu_core.specs.Shared.{Reply}
+use Rattle.object_card.specs.OneStep.{Operation, Select, Get, Put}
 use Rattle.object_card.specs.CarryingOut.{select_header, get_header, put_header}
-use Rattle.card_terminal.specs.Gathered.{UnitOf, dialogues_of, Gathers}
+use Rattle.exchange_core.specs.Gathered.{UnitOf, dialogues_of, Gathers}
 
 -- SELECT by identifier, and GET DATA, both with Le = 00, which asks for everything (ISO/IEC 7816-4,
 -- SELECT and GET DATA)

@@ -7,7 +7,8 @@ use Rattle.apdu_core.specs.StatusWord.{StatusWord, ok}
 use Rattle.apdu_core.specs.CommandBytes.{Command}
 use Rattle.apdu_core.specs.Chaining.{HavePieceSizes, IsPieces, with_more, link, chain_commands}
 use Rattle.object_card.specs.State.{CardState}
-use Rattle.object_card.specs.OneStep.{Operation, Reply, SameTables, AnswersAll}
+use Rattle.apdu_core.specs.Shared.{Reply}
+use Rattle.object_card.specs.OneStep.{Operation, SameTables, AnswersAll}
 use Rattle.object_card.specs.CarryingOut.{IsAnswered, EndsWith, all_taken, stopped}
 use Rattle.object_card.specs.AnswerLaws.{answers_alike}
 use Rattle.card_terminal.specs.Talk.{AreExchangesBy, IsTalkBy, AreTalksBy}

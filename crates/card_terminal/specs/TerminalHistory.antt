@@ -3,7 +3,7 @@ use Rattle.std.specs.Prelude.{◌≡◌, ◌<◌, ◌≤◌, ◌+◌, ℕ, List,
 use Rattle.std.specs.List.{AllByRecursion, flat_map}
 use Rattle.apdu_core.specs.HeaderBytes.{ins_is_valid}
 use Rattle.apdu_core.specs.CommandBytes.{Command}
-use Rattle.card_terminal.specs.Gathered.{UnitOf, unit_data}
+use Rattle.exchange_core.specs.Gathered.{UnitOf, unit_data}
 
 -- each command has a valid INS
 abbrev pub HaveValidIns : List Command → Type 0

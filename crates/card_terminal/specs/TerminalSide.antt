@@ -11,10 +11,10 @@ use Rattle.t0_core.specs.DataSent.{both, sent_in_all, IsKnown, Tells}
 use Rattle.t0_core.specs.Character.{Character}
 use Rattle.t0_core.specs.Dialogue.{IsDialogue}
 use Rattle.object_card.specs.CarryingOut.{put_header}
-use Rattle.card_terminal.specs.Gathered.{UnitOf}
+use Rattle.exchange_core.specs.Gathered.{UnitOf}
 use Rattle.card_terminal.specs.Talk.{AreTakenUpTo, talk_dialogues, talk_characters}
-use Rattle.card_terminal.specs.ExchangeSide.{ExchangeOf, IsBounded, GoesByCharacters, exchange_turn, exchange_sent, response_limit}
-use Rattle.card_terminal.specs.ExchangeHistory.{ComesTo, ComesTooFar}
+use Rattle.exchange_core.specs.ExchangeSide.{ExchangeOf, IsBounded, GoesByCharacters, exchange_turn, exchange_sent, response_limit}
+use Rattle.exchange_core.specs.ExchangeHistory.{ComesTo, ComesTooFar}
 use Rattle.card_terminal.specs.Conversing.{is_done}
 
 -- The exchange of the operation's current command; the bytes still to put after its data (`rest`),

@@ -15,13 +15,13 @@ use Rattle.t0_core.specs.Dialogue.{Dialogue, characters}
 use Rattle.t0_core.specs.HostSide.{fault_of, data_due}
 use Rattle.t0_core.specs.HostAnswer.{answer_fault, fails_with, Gives}
 use Rattle.t0_core.specs.TpduBytes.{Asked, due_by}
-use Rattle.card_terminal.specs.declared.handed_out.HandedOut.{HandedOut}
+use Rattle.exchange_core.specs.declared.handed_out.HandedOut.{HandedOut}
 use Rattle.card_terminal.specs.declared.terminal.begin_fault.BeginFault.{BeginFault}
 use Rattle.card_terminal.specs.declared.terminal.begin_fault.BeginFault.TheVariants.{OutOfMemory, UnderWay}
-use Rattle.card_terminal.specs.Buffers.{IsHandingOut}
-use Rattle.card_terminal.specs.Gathered.{UnitOf}
+use Rattle.exchange_core.specs.Buffers.{IsHandingOut}
+use Rattle.exchange_core.specs.Gathered.{UnitOf}
 use Rattle.card_terminal.specs.Talk.{AreExchangesOf, talk_characters}
-use Rattle.card_terminal.specs.ExchangeSide.{IsBounded, is_final}
+use Rattle.exchange_core.specs.ExchangeSide.{IsBounded, is_final}
 use Rattle.card_terminal.specs.TerminalSide.{OperationOf, LeadsTo, LeadsTooFarTo, GoByCharacters, operation_sent, terminal_turn, is_going}
 
 -- An operation with these commands has begun. Or another is in progress, or memory ran out, and

@@ -1,7 +1,7 @@
 //! The list of answers to which a session appends one for each operation.
 ghost use Rattle.std.specs.Prelude.{◌≡◌, ◌≤◌, [], ◌∷◌, ◌++◌, length, slice_get, option_copied, OnOk, MatchOption};
 
-use crate::answer::Answer;
+use exchange_core::Answer;
 use std::alloc::{AllocError, Allocator, Global};
 use std::marker::Model;
 

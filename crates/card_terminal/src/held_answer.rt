@@ -1,9 +1,9 @@
 //! The answer to an operation, in a room that the next operation can use again.
 ghost use Rattle.std.specs.Prelude.{◌≡◌, []};
-ghost use Rattle.card_terminal.specs.ExchangeSide.{response_limit};
+ghost use Rattle.exchange_core.specs.ExchangeSide.{response_limit};
 
-use crate::answer::Answer;
 use apdu_core::Status;
+use exchange_core::Answer;
 use std::alloc::{Allocator, Global};
 use std::marker::Model;
 use t0_core::Gather;
@@ -18,8 +18,8 @@ pub struct HeldAnswer<A: Allocator = Global> {
 
 impl<A: Allocator> Model for HeldAnswer<A> {
     ghost use Rattle.std.specs.Prelude.{◌≡◌};
-    ghost use Rattle.object_card.specs.OneStep.{Reply};
-    ghost use Rattle.card_terminal.specs.ExchangeSide.{response_limit};
+    ghost use Rattle.apdu_core.specs.Shared.{Reply};
+    ghost use Rattle.exchange_core.specs.ExchangeSide.{response_limit};
 
     ghost Value = { Reply };
 

@@ -7,16 +7,15 @@ ghost use Rattle.t0_core.specs.Plan.{Course, Cursor};
 ghost use Rattle.t0_core.specs.Watch.{Hearing};
 ghost use Rattle.t0_core.specs.Buffers.{Steps};
 ghost use Rattle.object_card.specs.Agreed.{IsAgreed};
-ghost use Rattle.card_terminal.specs.ExchangeSide.{IsBounded, exchange_turn};
+ghost use Rattle.exchange_core.specs.ExchangeSide.{IsBounded, exchange_turn};
 ghost use Rattle.card_terminal.specs.Conversing.{point, IsCaused};
 ghost use Rattle.card_terminal.specs.Line.{Start, line, HearsOne, Begins, IsGoing, IsOneOf, Keeps, Passes, Converses};
 
 mod run;
 
-use crate::answer::Answer;
-use crate::exchange::Exchange;
 use crate::session_fault::SessionFault;
 use apdu_core::Command;
+use exchange_core::{Answer, Exchange};
 use std::alloc::Allocator;
 use std::marker::Model;
 use t0_core::{CardEnd, End, HostTurn, LineFault, Plans, TpduCard, Turn, Watch};
@@ -43,7 +42,7 @@ impl<C: TpduCard> Session<C> {
     ghost use Rattle.std.specs.Prelude.{IsErrOf};
     ghost use Rattle.std.specs.List.{flat_map};
     ghost use Rattle.t0_core.specs.declared.line_fault.LineFault.{LineFault};
-    ghost use Rattle.card_terminal.specs.Gathered.{UnitOf, Gathers, dialogues_of};
+    ghost use Rattle.exchange_core.specs.Gathered.{UnitOf, Gathers, dialogues_of};
     ghost use Rattle.card_terminal.specs.Conversing.{HaveGone};
 
     /// Resets the card, and starts a session with it.

@@ -9,11 +9,12 @@ ghost use Rattle.t0_core.specs.Meaning.{received, Runs};
 ghost use Rattle.t0_core.specs.Plan.{Course};
 ghost use Rattle.object_card.specs.declared.limits.TheConstants.{VALUE_LIMIT, HEAD_LIMIT};
 ghost use Rattle.object_card.specs.State.{CardState, IsCardState, is_idle, waiting};
-ghost use Rattle.object_card.specs.OneStep.{Operation, Reply, Answers, SameTables, AnswersAll};
+ghost use Rattle.apdu_core.specs.Shared.{Reply};
+ghost use Rattle.object_card.specs.OneStep.{Operation, Answers, SameTables, AnswersAll};
 ghost use Rattle.object_card.specs.CardMeaning.{Does};
-ghost use Rattle.card_terminal.specs.declared.wanted.Wanted.{Wanted};
-ghost use Rattle.card_terminal.specs.Gathered.{Opening, By_command, UnitOf, dialogues_of, unit_data, wanted_by, repeated_with, AreFollowed, IsOpenExchange};
-ghost use Rattle.card_terminal.specs.ExchangeSide.{Stall, so_far};
+ghost use Rattle.exchange_core.specs.declared.wanted.Wanted.{Wanted};
+ghost use Rattle.exchange_core.specs.Gathered.{Opening, By_command, UnitOf, dialogues_of, unit_data, wanted_by, repeated_with, AreFollowed, IsOpenExchange};
+ghost use Rattle.exchange_core.specs.ExchangeSide.{Stall, so_far};
 ghost use Rattle.card_terminal.specs.Talk.{IsTalkOf, Talk, HaveCuts, talk_dialogues};
 
 use object_card::DataCard;

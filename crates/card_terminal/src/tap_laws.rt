@@ -9,7 +9,8 @@ ghost use Rattle.t0_core.specs.Plan.{Course};
 ghost use Rattle.t0_core.specs.TapLine.{AreTold, HearsInTurn};
 ghost use Rattle.t0_core.specs.TapSide.{afresh};
 ghost use Rattle.t0_core.specs.Watch.{Hearing, Hears};
-ghost use Rattle.object_card.specs.OneStep.{Operation, Reply};
+ghost use Rattle.apdu_core.specs.Shared.{Reply};
+ghost use Rattle.object_card.specs.OneStep.{Operation};
 ghost use Rattle.card_terminal.specs.Talk.{Talk};
 
 use t0_core::TpduCard;

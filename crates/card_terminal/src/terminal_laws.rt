@@ -6,11 +6,11 @@ ghost use Rattle.apdu_core.specs.CommandBytes.{Command};
 ghost use Rattle.t0_core.specs.declared.host_end.HostTurn.TheVariants as HostTurn;
 ghost use Rattle.t0_core.specs.Character.{Character};
 ghost use Rattle.t0_core.specs.Dialogue.{IsDialogue};
-ghost use Rattle.object_card.specs.OneStep.{Reply};
-ghost use Rattle.card_terminal.specs.Gathered.{UnitOf};
+ghost use Rattle.apdu_core.specs.Shared.{Reply};
+ghost use Rattle.exchange_core.specs.Gathered.{UnitOf};
 ghost use Rattle.card_terminal.specs.Talk.{AreExchangesOf, talk_dialogues, talk_characters};
-ghost use Rattle.card_terminal.specs.ExchangeSide.{exchange_turn};
-ghost use Rattle.card_terminal.specs.ExchangeHistory.{Expects, BeginsExchange, FaultCameLast};
+ghost use Rattle.exchange_core.specs.ExchangeSide.{exchange_turn};
+ghost use Rattle.exchange_core.specs.ExchangeHistory.{Expects, BeginsExchange, FaultCameLast};
 ghost use Rattle.card_terminal.specs.TerminalSide.{OperationOf, HasCome, LeadsTo};
 ghost use Rattle.card_terminal.specs.TerminalHistory.{HaveValidIns, HaveRoom, brought_by};
 

@@ -5,7 +5,8 @@ use Rattle.t0_core.specs.Plan.{Course}
 use Rattle.t0_core.specs.Watch.{Hearing, Hears}
 use Rattle.object_card.specs.State.{CardState, is_idle}
 use Rattle.object_card.specs.CardMeaning.{Does}
-use Rattle.object_card.specs.OneStep.{Operation, Reply}
+use Rattle.apdu_core.specs.Shared.{Reply}
+use Rattle.object_card.specs.OneStep.{Operation}
 use Rattle.card_terminal.specs.Talk.{Talk}
 use Rattle.card_trace.specs.PrintedText.{busy_text}
 use Rattle.card_trace.specs.TraceText.{operation_text}

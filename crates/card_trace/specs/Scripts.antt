@@ -8,11 +8,12 @@ use Rattle.t0_core.specs.Meaning.{Runs}
 use Rattle.t0_core.specs.Plan.{Course, FollowInTurn}
 use Rattle.object_card.specs.Tables.{Application}
 use Rattle.object_card.specs.State.{CardState, is_idle, after_reset}
-use Rattle.object_card.specs.OneStep.{Operation, Reply}
+use Rattle.apdu_core.specs.Shared.{Reply}
+use Rattle.object_card.specs.OneStep.{Operation}
 use Rattle.object_card.specs.CardMeaning.{Does}
 use Rattle.object_card.specs.declared.builder_fault.BuilderFault.{BuilderFault}
 use Rattle.object_card.specs.Builder.{TakesApplication, TakesObject, RefusesApplication, RefusesObject, with_application, with_last_entry, new_card}
-use Rattle.card_terminal.specs.Gathered.{UnitOf, Gathers, dialogues_of}
+use Rattle.exchange_core.specs.Gathered.{UnitOf, Gathers, dialogues_of}
 use Rattle.card_terminal.specs.Talk.{Talk}
 use Rattle.card_trace.specs.declared.script.refusal.Refusal.{Refusal}
 use Rattle.card_trace.specs.declared.script.refusal.Refusal.TheVariants.{Line}

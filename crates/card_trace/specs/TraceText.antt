@@ -6,7 +6,7 @@ use Rattle.hex.specs.Hex.{encode_upper}
 use Rattle.t0_core.specs.declared.end.End.{End}
 use Rattle.t0_core.specs.declared.end.End.TheVariants.{Terminal, Card}
 use Rattle.t0_core.specs.Character.{Character}
-use Rattle.object_card.specs.OneStep.{Reply}
+use Rattle.apdu_core.specs.Shared.{Reply}
 use Rattle.card_trace.specs.LineText.{newline}
 
 abbrev pub is_same : End → End → Bool

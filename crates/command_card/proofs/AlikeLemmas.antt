@@ -9,10 +9,10 @@ use Rattle.apdu_core.specs.CommandBytes.{Command}
 use Rattle.apdu_core.specs.StatusWord.{StatusWord, IsStatusWord, count}
 use Rattle.t0_core.specs.Meaning.{Runs}
 use Rattle.t0_core.specs.Plan.{Course, IsCut}
-use Rattle.object_card.specs.CarryingOut.{get_response}
-use Rattle.card_terminal.specs.declared.wanted.Wanted.{Wanted}
-use Rattle.card_terminal.specs.declared.wanted.Wanted.TheVariants.{Bytes, Everything}
-use Rattle.card_terminal.specs.Gathered.{Gathers, UnitOf, dialogues_of, wanted_by}
+use Rattle.apdu_core.specs.Shared.{get_response}
+use Rattle.exchange_core.specs.declared.wanted.Wanted.{Wanted}
+use Rattle.exchange_core.specs.declared.wanted.Wanted.TheVariants.{Bytes, Everything}
+use Rattle.exchange_core.specs.Gathered.{Gathers, UnitOf, dialogues_of, wanted_by}
 use Rattle.card_terminal.specs.Talk.{HaveCuts}
 use Rattle.command_card.specs.Carrying.{Did, IsOwn, Makes}
 use Rattle.command_card.specs.State.{CardState, Nothing_left, announcing, fetch_left}

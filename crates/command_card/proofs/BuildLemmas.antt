@@ -15,10 +15,10 @@ use Rattle.t0_core.specs.declared.plan.Step.TheVariants.{Null, One, All}
 use Rattle.t0_core.specs.Dialogue.{Dialogue, IsDialogue, all_moves, foreseen}
 use Rattle.t0_core.specs.Meaning.{Runs, Tpdu, tpdu_of}
 use Rattle.t0_core.specs.Plan.{Course, FollowInTurn, Follows, plain, segments_of}
-use Rattle.object_card.specs.CarryingOut.{get_response}
-use Rattle.card_terminal.specs.declared.wanted.Wanted.{Wanted}
-use Rattle.card_terminal.specs.declared.wanted.Wanted.TheVariants.{Bytes, Everything}
-use Rattle.card_terminal.specs.Gathered.{AreFollowed, Asks as AsksBy, BringsSome, By_command, By_fetch, IsFollowed, IsUnit, Opening, Opens, OpensWith, Repeated, SendsFrom, Single, UnitOf, after_unit, dialogues_of, fetched_after, first_of, last_of, less, unit_data, wanted_by, wants_at_least}
+use Rattle.apdu_core.specs.Shared.{get_response}
+use Rattle.exchange_core.specs.declared.wanted.Wanted.{Wanted}
+use Rattle.exchange_core.specs.declared.wanted.Wanted.TheVariants.{Bytes, Everything}
+use Rattle.exchange_core.specs.Gathered.{AreFollowed, Asks as AsksBy, BringsSome, By_command, By_fetch, IsFollowed, IsUnit, Opening, Opens, OpensWith, Repeated, SendsFrom, Single, UnitOf, after_unit, dialogues_of, fetched_after, first_of, last_of, less, unit_data, wanted_by, wants_at_least}
 use Rattle.card_terminal.specs.Talk.{HaveCuts}
 use Rattle.command_card.specs.Carrying.{Did, IsOwn, Makes, asking, taking}
 use Rattle.command_card.specs.State.{CardState, For_fetch, For_repeat, Hand, Nothing_left, announcing, fetch_left, handed, pending_for}

@@ -12,9 +12,9 @@ use Rattle.t0_core.specs.declared.direction.Direction.TheVariants.{ToCard}
 use Rattle.t0_core.specs.Dialogue.{Dialogue}
 use Rattle.t0_core.specs.Meaning.{Runs, received, tpdu_of}
 use Rattle.t0_core.specs.Plan.{Course}
-use Rattle.card_terminal.specs.declared.wanted.Wanted.{Wanted}
-use Rattle.card_terminal.specs.declared.wanted.Wanted.TheVariants.{Bytes}
-use Rattle.card_terminal.specs.Gathered.{AreFollowed, By_command, Gathers, IsUnit, Opening, OpensWith, Repeated, SendsFrom, Single, UnitOf, after_dialogue, correction_of, dialogues_of, fetched_after, fetched_of, first_of, last_of, less, unit_data}
+use Rattle.exchange_core.specs.declared.wanted.Wanted.{Wanted}
+use Rattle.exchange_core.specs.declared.wanted.Wanted.TheVariants.{Bytes}
+use Rattle.exchange_core.specs.Gathered.{AreFollowed, By_command, Gathers, IsUnit, Opening, OpensWith, Repeated, SendsFrom, Single, UnitOf, after_dialogue, correction_of, dialogues_of, fetched_after, fetched_of, first_of, last_of, less, unit_data}
 use Rattle.command_card.specs.Carrying.{Did, Makes, asking}
 use Rattle.command_card.specs.State.{CardState, For_repeat, Nothing_left, Outcome, announcing, handed, is_fetch, pending_for}
 use Rattle.command_card.specs.Meaning.{Asks, Brings, CarriesAsked, Does, DoesBy, kind_in}

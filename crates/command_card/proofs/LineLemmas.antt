@@ -7,7 +7,7 @@ use Rattle.apdu_core.specs.StatusWord.{StatusWord}
 use Rattle.std.specs.List.{flat_map}
 use Rattle.t0_core.specs.Meaning.{Runs}
 use Rattle.t0_core.specs.Plan.{Course}
-use Rattle.card_terminal.specs.Gathered.{UnitOf, Gathers, dialogues_of}
+use Rattle.exchange_core.specs.Gathered.{UnitOf, Gathers, dialogues_of}
 use Rattle.card_terminal.specs.Talk.{HaveCuts}
 use Rattle.command_card.specs.Meaning.{Does}
 use Rattle.command_card.proofs.WholeLemmas.{gathers_the_response}

@@ -13,10 +13,10 @@ use Rattle.t0_core.specs.declared.direction.Direction.TheVariants.{ToCard, FromC
 use Rattle.t0_core.specs.Dialogue.{Dialogue}
 use Rattle.t0_core.specs.Meaning.{Tpdu, Runs, tpdu_of, received, sent}
 use Rattle.t0_core.specs.Plan.{Course, IsCut}
-use Rattle.object_card.specs.CarryingOut.{get_response}
-use Rattle.card_terminal.specs.declared.wanted.Wanted.{Wanted}
-use Rattle.card_terminal.specs.declared.wanted.Wanted.TheVariants.{Bytes, Everything}
-use Rattle.card_terminal.specs.Gathered.{AreFollowed, Asks as AsksBy, By_command, By_fetch, Gathers, IsUnit, Opening, Opens, OpensWith, Repeated, SendsFrom, Single, UnitOf, after_dialogue, after_unit, correction_of, dialogues_of, fetched_after, fetched_of, first_of, last_of, less, repeated_with, unit_data, wanted_by, wants_at_least}
+use Rattle.apdu_core.specs.Shared.{get_response}
+use Rattle.exchange_core.specs.declared.wanted.Wanted.{Wanted}
+use Rattle.exchange_core.specs.declared.wanted.Wanted.TheVariants.{Bytes, Everything}
+use Rattle.exchange_core.specs.Gathered.{AreFollowed, Asks as AsksBy, By_command, By_fetch, Gathers, IsUnit, Opening, Opens, OpensWith, Repeated, SendsFrom, Single, UnitOf, after_dialogue, after_unit, correction_of, dialogues_of, fetched_after, fetched_of, first_of, last_of, less, repeated_with, unit_data, wanted_by, wants_at_least}
 use Rattle.card_terminal.specs.Talk.{HaveCuts}
 use Rattle.command_card.specs.Carrying.{Did, IsOwn, Makes, asking, taking}
 use Rattle.command_card.specs.State.{CardState, For_repeat, Hand, Nothing_left, Outcome, announcing, fetch_left, handed, pending_for, same_header}

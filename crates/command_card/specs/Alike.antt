@@ -8,9 +8,9 @@ use Rattle.apdu_core.specs.StatusWord.{StatusWord, count}
 use Rattle.t0_core.specs.Dialogue.{IsDialogue}
 use Rattle.t0_core.specs.Meaning.{Runs}
 use Rattle.t0_core.specs.Plan.{Course, FollowInTurn}
-use Rattle.card_terminal.specs.declared.wanted.Wanted.{Wanted}
-use Rattle.card_terminal.specs.declared.wanted.Wanted.TheVariants.{Bytes, Everything}
-use Rattle.card_terminal.specs.Gathered.{UnitOf, Gathers, dialogues_of, wanted_by}
+use Rattle.exchange_core.specs.declared.wanted.Wanted.{Wanted}
+use Rattle.exchange_core.specs.declared.wanted.Wanted.TheVariants.{Bytes, Everything}
+use Rattle.exchange_core.specs.Gathered.{UnitOf, Gathers, dialogues_of, wanted_by}
 use Rattle.command_card.specs.Carrying.{Did}
 use Rattle.command_card.specs.State.{CardState, is_fetch, pending_for}
 use Rattle.command_card.specs.Meaning.{Does}

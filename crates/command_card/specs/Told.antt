@@ -7,9 +7,9 @@ use Rattle.apdu_core.specs.StatusWord.{StatusWord, announces}
 use Rattle.command_card.specs.Carrying.{Did, Makes, asking, taking}
 use Rattle.command_card.specs.State.{CardState, announcing, fetch_left, is_fetch, pending_for}
 use Rattle.t0_core.specs.Plan.{Course}
-use Rattle.card_terminal.specs.declared.wanted.Wanted.{Wanted}
-use Rattle.card_terminal.specs.declared.wanted.Wanted.TheVariants.{Bytes, Everything}
-use Rattle.card_terminal.specs.Gathered.{wanted_by}
+use Rattle.exchange_core.specs.declared.wanted.Wanted.{Wanted}
+use Rattle.exchange_core.specs.declared.wanted.Wanted.TheVariants.{Bytes, Everything}
+use Rattle.exchange_core.specs.Gathered.{wanted_by}
 use Rattle.command_card.specs.AtT1.{HandsOut, Responds, may_bring, status_bytes}
 
 -- The command as T=0 tells it to the card: data without Le, or Le without data.

@@ -1,12 +1,10 @@
 //! What an application above the card's end does.
+pub use apdu_core::GET_RESPONSE;
 use apdu_core::{Command, Header, Status};
 use std::alloc::AllocError;
 
 /// The longest response of an application, in bytes without the status (profile).
 pub const OWN_RESPONSE_LIMIT: usize = 4_096;
-
-/// INS of GET RESPONSE (ISO/IEC 7816-4, GET RESPONSE).
-pub const GET_RESPONSE: u8 = 0xC0;
 
 /// An application above the card's end: it gets whole commands, and returns whole responses.
 ///

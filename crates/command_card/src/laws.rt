@@ -6,7 +6,7 @@ ghost use Rattle.apdu_core.specs.StatusWord.{StatusWord, IsStatusWord, announces
 ghost use Rattle.apdu_core.specs.CommandBytes.{Command};
 ghost use Rattle.t0_core.specs.Meaning.{Prepared, Runs};
 ghost use Rattle.t0_core.specs.Plan.{Course};
-ghost use Rattle.card_terminal.specs.Gathered.{UnitOf, Gathers, dialogues_of};
+ghost use Rattle.exchange_core.specs.Gathered.{UnitOf, Gathers, dialogues_of};
 ghost use Rattle.card_terminal.specs.Talk.{HaveCuts};
 ghost use Rattle.t0_core.specs.CardHistory.{Leads};
 ghost use Rattle.t0_core.specs.CardSide.{Stage};

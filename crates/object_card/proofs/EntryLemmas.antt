@@ -4,7 +4,8 @@ use Rattle.std.proofs.lemmas.Bool.{eqb-true}
 use Rattle.apdu_core.specs.StatusWord.{ok}
 use Rattle.t0_core.specs.Meaning.{Tpdu}
 use Rattle.object_card.specs.State.{CardState, chained}
-use Rattle.object_card.specs.OneStep.{Operation, Put, Reply, Answers, stores}
+use Rattle.apdu_core.specs.Shared.{Reply}
+use Rattle.object_card.specs.OneStep.{Operation, Put, Answers, stores}
 use Rattle.object_card.specs.CardMeaning.{Does, puts_value}
 
 answered_ok : (old new : CardState) (operation : Operation) (answer : Reply)

@@ -3,7 +3,7 @@ use Rattle.std.proofs.Common.{◌≡◌, ◌∙◌, ℕ, ◌≤◌, List, length
 use Rattle.std.specs.Prelude.{IsSome, is_some, is_none, not, ◌||◌}
 use Rattle.apdu_core.specs.declared.header.Header.{Header}
 use Rattle.apdu_core.specs.Chaining.{ChainState}
-use Rattle.object_card.specs.declared.limits.TheConstants.{RESPONSE_LIMIT}
+use Rattle.apdu_core.specs.declared.shared.TheConstants.{RESPONSE_LIMIT}
 use Rattle.object_card.specs.declared.response.Response.{Response}
 use Rattle.object_card.specs.declared.ready.Ready.{Ready}
 use Rattle.object_card.specs.declared.ready.Ready.TheVariants as ready

@@ -3,7 +3,8 @@ use Rattle.std.proofs.Common.{◌≡◌, ℕ, List, [], ◌++◌, Some, inl, inr
 use Rattle.apdu_core.specs.StatusWord.{StatusWord}
 use Rattle.t0_core.specs.Meaning.{Tpdu}
 use Rattle.object_card.specs.State.{CardState, chained}
-use Rattle.object_card.specs.OneStep.{Put, Reply, Answers}
+use Rattle.apdu_core.specs.Shared.{Reply}
+use Rattle.object_card.specs.OneStep.{Put, Answers}
 use Rattle.object_card.specs.CardMeaning.{Does, selects_application, puts_value}
 use Rattle.object_card.specs.Refusals.{refusal}
 use Rattle.object_card.specs.StepLaws.{refused_step}

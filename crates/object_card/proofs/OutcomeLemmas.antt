@@ -7,7 +7,8 @@ use Rattle.t0_core.specs.Meaning.{Tpdu}
 use Rattle.tlv_core.specs.Spelling.{object_bytes}
 use Rattle.object_card.specs.Tables.{Entry, entries_in, value_under}
 use Rattle.object_card.specs.State.{CardState, NothingPending, ChainPending, ResponsePending, chained, pending_of, with_pending, with_selected, selected_entries}
-use Rattle.object_card.specs.OneStep.{Operation, Select, Get, Put, Reply, reply, is_selection, Answers, selects, finds_no_application, none_selected, finds_no_object, gives, stores, does_not_store, wants_memory, with_put, control_information, SameTables, PutStatus, not_allowed}
+use Rattle.apdu_core.specs.Shared.{Reply, reply}
+use Rattle.object_card.specs.OneStep.{Operation, Select, Get, Put, is_selection, Answers, selects, finds_no_application, none_selected, finds_no_object, gives, stores, does_not_store, wants_memory, with_put, control_information, SameTables, PutStatus, not_allowed}
 use Rattle.object_card.specs.Refusals.{is_select, is_get, is_put, is_get_response, refusal, to_send, named_tag}
 use Rattle.object_card.specs.CardMeaning.{Does, refuses, selects_application, misses_application, sends, chains, puts_value, after_refusal, announcing}
 use Rattle.object_card.specs.TagLaws.{named}

@@ -12,7 +12,8 @@ use Rattle.object_card.specs.declared.limits.TheConstants.{VALUE_LIMIT}
 use Rattle.object_card.specs.declared.response.Response.{Response}
 use Rattle.object_card.specs.Tables.{is_locked}
 use Rattle.object_card.specs.State.{CardState, IsCardState, NothingPending, ChainPending, chained, with_pending, selected_entries}
-use Rattle.object_card.specs.OneStep.{Put, reply, Answers, PutStatus, stores, does_not_store, wants_memory, with_put}
+use Rattle.apdu_core.specs.Shared.{reply}
+use Rattle.object_card.specs.OneStep.{Put, Answers, PutStatus, stores, does_not_store, wants_memory, with_put}
 use Rattle.object_card.specs.Refusals.{is_select, is_put, named_tag, class_is_known, is_locked_among, OtherThanItsChain, UnknownClass, WrongParameters, LockedEntry}
 use Rattle.object_card.specs.CardMeaning.{Does, chains, puts_value}
 use Rattle.object_card.specs.CardFields.{ApplicationView, IsResponse, applications_of, held_at, aid_at, entries_at, pending_in, state_of}

@@ -13,7 +13,8 @@ use Rattle.tlv_core.specs.FaultLaws.{first_here}
 use Rattle.tlv_core.specs.Address.{NamesTag}
 use Rattle.object_card.specs.Tables.{Entry, Application, same_bytes, is_locked, with_value}
 use Rattle.object_card.specs.State.{CardState, Pending, NothingPending, ChainPending, ResponsePending}
-use Rattle.object_card.specs.OneStep.{Put, Reply, Answers, stores, does_not_store, wants_memory, PutStatus, not_allowed, stored, wrong_data, no_space, control_information, with_put}
+use Rattle.apdu_core.specs.Shared.{Reply}
+use Rattle.object_card.specs.OneStep.{Put, Answers, stores, does_not_store, wants_memory, PutStatus, not_allowed, stored, wrong_data, no_space, control_information, with_put}
 use Rattle.object_card.specs.Refusals.{refusal}
 use Rattle.object_card.specs.CardMeaning.{Does, refuses, selects_application, misses_application, sends, chains, puts_value}
 use Rattle.object_card.specs.CardLaws.{put_leaves}

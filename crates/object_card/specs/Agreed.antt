@@ -2,7 +2,7 @@
 use Rattle.std.specs.Prelude.{ℕ, List, [], ◌∷◌, Option, Some, None}
 use Rattle.apdu_core.specs.declared.header.Header.{Header}
 use Rattle.apdu_core.specs.CommandBytes.{Command}
-use Rattle.object_card.specs.CarryingOut.{get_response}
+use Rattle.apdu_core.specs.Shared.{get_response}
 
 -- In case 2 the card never takes data under the header. In cases 1, 3 and 4 it never sends any. In
 -- cases 2 and 4 it never takes data under GET RESPONSE, which may follow (ISO/IEC 7816-3, 10.3.1: a

@@ -3,7 +3,8 @@ use Rattle.std.proofs.Common.{◌≡◌, ℕ, List, Some, None, true, refl, sym,
 use Rattle.std.specs.Prelude.{is_some, option_and_then}
 use Rattle.object_card.specs.Tables.{entries_in, with_object}
 use Rattle.object_card.specs.State.{CardState, selected_entries, with_selected}
-use Rattle.object_card.specs.OneStep.{Operation, Put, Reply, reply, Answers, selects, finds_no_application, none_selected, finds_no_object, gives, stores, does_not_store, wants_memory, with_put, SameTables}
+use Rattle.apdu_core.specs.Shared.{Reply, reply}
+use Rattle.object_card.specs.OneStep.{Operation, Put, Answers, selects, finds_no_application, none_selected, finds_no_object, gives, stores, does_not_store, wants_memory, with_put, SameTables}
 
 -- the same tables have the same entries selected
 pub same_entries : (a b : CardState) → SameTables a b → selected_entries a ≡ selected_entries b

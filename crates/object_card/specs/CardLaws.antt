@@ -3,7 +3,8 @@ use Rattle.std.proofs.Common.{◌≡◌, ℕ, List, Some, ◌⊎◌, inl, inr, r
 use Rattle.apdu_core.specs.StatusWord.{StatusWord, ok}
 use Rattle.object_card.specs.Tables.{Entry, entries_in}
 use Rattle.object_card.specs.State.{CardState}
-use Rattle.object_card.specs.OneStep.{Put, Reply, Answers, PutStatus, stores, does_not_store, with_put}
+use Rattle.apdu_core.specs.Shared.{Reply}
+use Rattle.object_card.specs.OneStep.{Put, Answers, PutStatus, stores, does_not_store, with_put}
 use Rattle.std.specs.Prelude.{◌==◌}
 use Rattle.std.proofs.lemmas.Bool.{eqb-true, and_left, and_right}
 use Rattle.object_card.specs.ShownPuts.{is_ok}

@@ -7,7 +7,8 @@ use Rattle.tlv_core.specs.Address.{NamesTag}
 use Rattle.t0_core.specs.Meaning.{Tpdu}
 use Rattle.object_card.specs.Tables.{entries_in}
 use Rattle.object_card.specs.State.{CardState, Pending, NothingPending, ChainPending, ResponsePending, chained, pending_of, with_pending, with_selected}
-use Rattle.object_card.specs.OneStep.{Put, Reply, Answers, control_information}
+use Rattle.apdu_core.specs.Shared.{Reply}
+use Rattle.object_card.specs.OneStep.{Put, Answers, control_information}
 use Rattle.object_card.specs.Refusals.{is_select, is_get, is_put, is_get_response, to_send, refusal}
 
 -- 61XX announces the number of bytes left, at most the cut. If nothing is left, 9000 ends the

@@ -1,6 +1,7 @@
 -- How an operation is carried out with a card: its commands, one TPDU each, and GET RESPONSE for
 -- what waits (ISO/IEC 7816-3, 12.2.1; ISO/IEC 7816-4, SELECT, GET DATA, PUT DATA and 5.1.1.1).
 use Rattle.std.specs.Prelude.{◌≡◌, ◌≢◌, ℕ, List, [], ◌∷◌, ◌++◌, length, take, drop, Some, None, true}
+use Rattle.apdu_core.specs.Shared.{get_response}
 use Rattle.apdu_core.specs.declared.header.Header.{Header}
 use Rattle.apdu_core.specs.StatusWord.{StatusWord, ok, count, announces}
 use Rattle.apdu_core.specs.CommandBytes.{Command}
@@ -22,9 +23,6 @@ get_header p1 p2 = record { cla = 0x00; ins = ins_of GetData; p1 = p1; p2 = p2 }
 
 abbrev pub put_header : ℕ → ℕ → Header
 put_header p1 p2 = record { cla = 0x00; ins = ins_of PutData; p1 = p1; p2 = p2 }
-
-abbrev pub get_response : Header
-get_response = record { cla = 0x00; ins = ins_of GetResponse; p1 = 0x00; p2 = 0x00 }
 
 -- The operation gets this reply in one step, the tables are those afterwards, and no chain is
 -- pending.

@@ -2,6 +2,7 @@
 -- DATA).
 use Rattle.std.specs.Prelude.{◌≡◌, ◌≢◌, ℕ, ◌<◌, ◌≤◌, List, [], ◌∷◌, length, Some, None, ◌⊎◌, Bool, true, false, is_some}
 use Rattle.apdu_core.specs.StatusWord.{StatusWord, ok}
+use Rattle.apdu_core.specs.Shared.{Reply, reply}
 use Rattle.tlv_core.specs.Spelling.{object_bytes}
 use Rattle.object_card.specs.declared.limits.TheConstants.{VALUE_LIMIT, ENTRY_LIMIT}
 use Rattle.object_card.specs.Tables.{Entry, IsValueOf, is_locked, value_under, entries_in, with_object}
@@ -17,15 +18,6 @@ abbrev pub is_selection : Operation → Bool
 is_selection (Select aid) = true
 is_selection (Get tag) = false
 is_selection (Put tag value) = false
-
--- the reply to an operation
-pub record Reply : Type 0 where
-  pub status : StatusWord
-  pub content : List ℕ
-
--- a reply without data
-abbrev pub reply : StatusWord → Reply
-reply status = record { status = status; content = [] }
 
 -- The file control information of an application: 6F, which contains 84, which contains the
 -- identifier (ISO/IEC 7816-4, file control information). That it contains nothing else is this

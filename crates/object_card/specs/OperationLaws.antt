@@ -14,7 +14,8 @@ use Rattle.tlv_core.specs.Length.{shortest}
 use Rattle.tlv_core.specs.Spelling.{object_bytes}
 use Rattle.object_card.specs.Tables.{Entry, IsAid, entries_in, value_under}
 use Rattle.object_card.specs.State.{CardState, Pending, NothingPending, ChainPending, ResponsePending, is_idle, waiting, pending_of, selected_entries, with_selected}
-use Rattle.object_card.specs.OneStep.{Operation, Select, Get, reply, Answers, selects, finds_no_application, none_selected, finds_no_object, gives, control_information, SameTables}
+use Rattle.apdu_core.specs.Shared.{reply}
+use Rattle.object_card.specs.OneStep.{Operation, Select, Get, Answers, selects, finds_no_application, none_selected, finds_no_object, gives, control_information, SameTables}
 use Rattle.object_card.specs.Refusals.{is_select, is_get, is_get_response, refusal, breaks_chain, named_tag, to_send}
 use Rattle.object_card.specs.CardMeaning.{Does, announcing}
 use Rattle.object_card.specs.CarryingOut.{select_header, get_header, IsCarriedOut, Carries, FetchAll}

@@ -10,7 +10,8 @@ use Rattle.apdu_core.specs.Chaining.{IsPieces, with_more, chain_commands}
 use Rattle.t0_core.specs.Meaning.{Tpdu}
 use Rattle.tlv_core.specs.Address.{NamesTag}
 use Rattle.object_card.specs.State.{CardState, Pending, NothingPending, ChainPending, ResponsePending, is_idle, chained, with_pending}
-use Rattle.object_card.specs.OneStep.{Put, reply, Answers, none_selected, does_not_store, not_allowed, wrong_length, SameTables}
+use Rattle.apdu_core.specs.Shared.{reply}
+use Rattle.object_card.specs.OneStep.{Put, Answers, none_selected, does_not_store, not_allowed, wrong_length, SameTables}
 use Rattle.object_card.specs.Refusals.{is_put, refusal, breaks_chain}
 use Rattle.object_card.specs.CardMeaning.{after_refusal}
 use Rattle.object_card.specs.CarryingOut.{put_header, IsAnswered, EndsWith, IsCarriedOut, all_taken, stopped}

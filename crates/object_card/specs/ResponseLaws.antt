@@ -8,10 +8,12 @@ use Rattle.t0_core.specs.Plan.{IsCut}
 use Rattle.t0_core.specs.Meaning.{Tpdu}
 use Rattle.object_card.specs.declared.limits.TheConstants.{VALUE_LIMIT, HEAD_LIMIT}
 use Rattle.object_card.specs.State.{CardState, IsCardState, Pending, ResponsePending, is_idle, waiting, pending_of}
-use Rattle.object_card.specs.OneStep.{Operation, Put, Reply, Answers, does_not_store, PutStatus, not_allowed, control_information}
+use Rattle.apdu_core.specs.Shared.{Reply}
+use Rattle.object_card.specs.OneStep.{Operation, Put, Answers, does_not_store, PutStatus, not_allowed, control_information}
 use Rattle.object_card.specs.Refusals.{is_get, is_get_response, refusal, to_send}
 use Rattle.object_card.specs.CardMeaning.{Does, refuses, selects_application, misses_application, sends, chains, puts_value, after_refusal, announcing}
-use Rattle.object_card.specs.CarryingOut.{get_response, IsFetched}
+use Rattle.apdu_core.specs.Shared.{get_response}
+use Rattle.object_card.specs.CarryingOut.{IsFetched}
 use Rattle.object_card.specs.StepLaws.{send_step, send_refused, is_sent}
 use Rattle.object_card.specs.RefusalLaws.{is_refusing, after_refusal_holds}
 use Rattle.object_card.specs.StateLaws.{stays_sound, waiting_length, to_send_length}

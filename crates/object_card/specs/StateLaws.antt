@@ -13,7 +13,8 @@ use Rattle.tlv_core.specs.Spelling.{object_bytes}
 use Rattle.object_card.specs.declared.limits.TheConstants.{VALUE_LIMIT, ENTRY_LIMIT, HEAD_LIMIT}
 use Rattle.object_card.specs.Tables.{Entry, IsEntry, AreApplications, IsValueOf, value_under, entries_in, with_object, is_locked}
 use Rattle.object_card.specs.State.{CardState, IsCardState, Pending, NothingPending, ChainPending, ResponsePending, IsPending, chained, waiting, pending_of, selected_entries, with_pending}
-use Rattle.object_card.specs.OneStep.{Put, Reply, Answers, PutStatus, stored, control_information}
+use Rattle.apdu_core.specs.Shared.{Reply}
+use Rattle.object_card.specs.OneStep.{Put, Answers, PutStatus, stored, control_information}
 use Rattle.object_card.specs.Refusals.{Reason, OtherThanItsChain, UnknownClass, UnknownInstruction, NotChained, WrongParameters, NoApplicationSelected, NoResponsePending, LockedEntry, NoSuchObject, ValueTooLong, NoIdentifier, MoreThanIsLeft, in_order, holds, first_of_them, status_for, refusal, is_get, is_put, to_send, object_asked, named_tag, is_get_response}
 use Rattle.object_card.specs.CardMeaning.{Does, refuses, selects_application, misses_application, sends, chains, puts_value, after_refusal}
 use Rattle.object_card.specs.TableLaws.{applications_stay_sound, found_is_sound, value_is_sound, held_stays}

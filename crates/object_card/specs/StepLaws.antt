@@ -7,7 +7,8 @@ use Rattle.t0_core.specs.Meaning.{Tpdu}
 use Rattle.tlv_core.specs.Address.{NamesTag}
 use Rattle.object_card.specs.Tables.{entries_in}
 use Rattle.object_card.specs.State.{CardState, NothingPending, ChainPending, ResponsePending, chained, pending_of, with_pending, with_selected}
-use Rattle.object_card.specs.OneStep.{Put, Reply, Answers, control_information}
+use Rattle.apdu_core.specs.Shared.{Reply}
+use Rattle.object_card.specs.OneStep.{Put, Answers, control_information}
 use Rattle.object_card.specs.Refusals.{is_select, is_get, is_put, is_get_response, refusal, to_send}
 use Rattle.object_card.specs.CardMeaning.{Does, refuses, selects_application, misses_application, sends, chains, puts_value, after_refusal, announcing}
 

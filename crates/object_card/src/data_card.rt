@@ -5,7 +5,7 @@ ghost use Rattle.object_card.specs.DataCard.{StandsFor};
 ghost use Rattle.apdu_core.specs.declared.header.Header.{Header};
 ghost use Rattle.object_card.specs.Instructions.{MayReceive, MaySend};
 
-use crate::limits::RESPONSE_LIMIT;
+use apdu_core::RESPONSE_LIMIT;
 use t0_core::TpduCard;
 
 /// A card of data objects: each of its states stands for a state of the definitions, and a TPDU or

@@ -4,6 +4,7 @@ ghost use Rattle.object_card.specs.Agreed.{IsAgreed};
 ghost use Rattle.object_card.specs.Instructions.{MayReceive, MaySend, ins_of, instruction_of, takes_data};
 
 use apdu_core::Command;
+pub use apdu_core::GET_RESPONSE;
 
 /// INS of SELECT (ISO/IEC 7816-4, SELECT).
 pub const SELECT: u8 = 0xA4;
@@ -13,9 +14,6 @@ pub const GET_DATA: u8 = 0xCA;
 
 /// INS of PUT DATA (ISO/IEC 7816-4, PUT DATA).
 pub const PUT_DATA: u8 = 0xDA;
-
-/// INS of GET RESPONSE (ISO/IEC 7816-4, GET RESPONSE).
-pub const GET_RESPONSE: u8 = 0xC0;
 
 /// CLA of a command that is followed by more of its chain.
 pub(crate) const CHAINED: u8 = 0x10;

@@ -43,10 +43,11 @@ mod verdict;
 mod view;
 
 pub use aid::Aid;
+pub use apdu_core::RESPONSE_LIMIT;
 pub use builder::CardBuilder;
 pub use builder_fault::BuilderFault;
 pub use card::ObjectCard;
 pub use data_card::DataCard;
 pub use entries::{Apps, Entries};
 pub use instructions::{GET_DATA, GET_RESPONSE, Instruction, PUT_DATA, SELECT, is_agreed};
-pub use limits::{APPLICATION_LIMIT, ENTRY_LIMIT, HEAD_LIMIT, RESPONSE_LIMIT, VALUE_LIMIT};
+pub use limits::{APPLICATION_LIMIT, ENTRY_LIMIT, HEAD_LIMIT, VALUE_LIMIT};

@@ -11,7 +11,7 @@ use Rattle.object_card.specs.CardMeaning.{Does}
 use Rattle.object_card.specs.Instructions.{MayReceive, MaySend}
 use Rattle.object_card.specs.OneStep.{Operation}
 use Rattle.object_card.specs.State.{CardState, IsCardState}
-use Rattle.card_terminal.specs.ExchangeSide.{response_limit}
+use Rattle.exchange_core.specs.ExchangeSide.{response_limit}
 use Rattle.card_terminal.specs.Talk.{AreCommandsOf}
 use Rattle.apdu_terminal.specs.Apdus.{Pair}
 use Rattle.apdu_terminal.specs.ApduOperations.{ApduOperationOf, HasRoomFor, IsTakingResponse, LeadsTo, operation_answer, operation_due, pair_of}

@@ -6,7 +6,8 @@ use Rattle.apdu_core.specs.CommandBytes.{Command, command_bytes}
 use Rattle.t0_core.specs.DialogueLaws.{flat_map_last}
 use Rattle.t0_core.specs.Meaning.{Tpdu}
 use Rattle.object_card.specs.CardMeaning.{Does}
-use Rattle.object_card.specs.OneStep.{Operation, Reply, AnswersAll}
+use Rattle.apdu_core.specs.Shared.{Reply}
+use Rattle.object_card.specs.OneStep.{Operation, AnswersAll}
 use Rattle.object_card.specs.State.{CardState, is_idle}
 use Rattle.card_terminal.specs.declared.operation.Op.{Op}
 use Rattle.card_terminal.specs.Operations.{operation_of}

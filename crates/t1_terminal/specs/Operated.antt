@@ -5,7 +5,8 @@ use Rattle.apdu_core.specs.declared.header.Header.{Header}
 use Rattle.apdu_core.specs.CommandBytes.{Command, IsCommand, command_bytes}
 use Rattle.object_card.specs.Agreed.{IsAgreed}
 use Rattle.object_card.specs.Instructions.{MayReceive, MaySend}
-use Rattle.object_card.specs.OneStep.{Operation, Reply, AnswersAll, SameTables}
+use Rattle.apdu_core.specs.Shared.{Reply}
+use Rattle.object_card.specs.OneStep.{Operation, AnswersAll, SameTables}
 use Rattle.object_card.specs.Refusals.{is_get_response}
 use Rattle.object_card.specs.State.{CardState, is_idle}
 use Rattle.apdu_terminal.specs.Apdus.{Pair}

@@ -2,7 +2,7 @@
 ghost use Rattle.std.specs.Prelude.{◌≡◌, ◌++◌, ◌∷◌, [], ℕ, List, true, None, IfOk, OnOk, MatchResult, MatchOption, is_some};
 ghost use Rattle.apdu_core.specs.CommandBytes as spec;
 ghost use Rattle.apdu_core.specs.StatusWord.{StatusWord, IsStatusWord};
-ghost use Rattle.card_terminal.specs.ExchangeSide.{response_limit};
+ghost use Rattle.exchange_core.specs.ExchangeSide.{response_limit};
 ghost use Rattle.card_terminal.specs.Operations.{operation_of};
 ghost use Rattle.card_terminal.specs.Talk.{AreCommandsOf};
 ghost use Rattle.object_card.specs.OneStep.{Operation};

@@ -3,7 +3,7 @@ ghost use Rattle.std.specs.Prelude.{◌≡◌, ◌≤◌, [], true};
 ghost use Rattle.apdu_core.specs.CommandBytes.{HasSizes};
 ghost use Rattle.apdu_core.specs.HeaderBytes.{ins_is_valid};
 ghost use Rattle.t0_core.specs.Room.{Room};
-ghost use Rattle.card_terminal.specs.ExchangeSide.{response_limit};
+ghost use Rattle.exchange_core.specs.ExchangeSide.{response_limit};
 ghost use Rattle.apdu_terminal.specs.ApduSide.{ComesTo, IsResponding, IsSound, due_of, kept_data, of_mark};
 ghost use Rattle.apdu_terminal.specs.declared.stage.Stage.TheVariants.{Going};
 

@@ -3,7 +3,7 @@
 ghost use Rattle.std.specs.Prelude.{◌≡◌, ℕ, ◌<◌, ◌≤◌, List, [], ◌++◌, length, Some, IfOk, OnOk, is_ok, MatchResult, if◌then◌else◌, true, false};
 ghost use Rattle.std.specs.Option.{option_map};
 ghost use Rattle.apdu_core.specs.StatusWord.{ok};
-ghost use Rattle.card_terminal.specs.ExchangeSide.{response_limit};
+ghost use Rattle.exchange_core.specs.ExchangeSide.{response_limit};
 ghost use Rattle.apdu_terminal.specs.ApduSide.{ApduExchangeOf, IsResponding, answer_of, due_of, is_going};
 ghost use Rattle.apdu_terminal.specs.ApduOperations.{Begins, GoesOver, GoesToNext, IsSettled, may_follow, with_exchange};
 ghost use Rattle.apdu_terminal.specs.declared.stage.Stage.TheVariants.{Done};

@@ -2,22 +2,20 @@
 ghost use Rattle.std.specs.Prelude.{◌≡◌, ◌⊎◌, ℕ, ◌≤◌, List, [], ◌∷◌, ◌++◌, length, None, Some, Err, IfOk, IsOk, is_ok, MatchResult, if◌then◌else◌, true, false, vec_capacity};
 ghost use Rattle.std.specs.Option.{option_map};
 ghost use Rattle.card_terminal.specs.OperationRoom.{BeginsWith};
-ghost use Rattle.card_terminal.specs.ExchangeSide.{ExchangeOf, IsBounded, exchange_turn, response_limit};
+ghost use Rattle.exchange_core.specs.ExchangeSide.{ExchangeOf, IsBounded, exchange_turn, response_limit};
 ghost use Rattle.t0_core.specs.HostSide.{data_due};
 ghost use Rattle.t0_core.specs.TpduBytes.{asked_of, due_by};
 ghost use Rattle.apdu_core.specs.StatusWord.{ok};
-ghost use Rattle.card_terminal.specs.Buffers.{IsHandingOut, IsTakingAll};
+ghost use Rattle.exchange_core.specs.Buffers.{IsHandingOut, IsTakingAll};
 ghost use Rattle.card_terminal.specs.TerminalSteps.{IsTerminalTaking};
-ghost use Rattle.card_terminal.specs.ExchangeSteps.{IsTurn, IsTaking, IsAnswering, IsAnswer};
+ghost use Rattle.exchange_core.specs.ExchangeSteps.{IsTurn, IsTaking, IsAnswering, IsAnswer};
 ghost use Rattle.card_terminal.specs.Unsent.{IsUnsent};
 ghost use Rattle.card_terminal.specs.TerminalSide.{GoesOver, GoesToNext, IsSettled, operation_sent, with_exchange};
 
 use crate::commands::put_header;
-use crate::exchange::ExchangeMark;
-use crate::handed_out::HandedOut;
-use crate::taken::Taken;
 use crate::unsent::Unsent;
 use apdu_core::{Command, Header, Status, pieces};
+use exchange_core::{ExchangeMark, HandedOut, Taken};
 use std::alloc::{AllocError, Allocator, Global};
 use std::marker::Model;
 use t0_core::{AnswerFault, DataSent, HostTurn, LineFault, WholeTpdu};
@@ -44,7 +42,7 @@ pub struct Operation<A: Allocator + Copy = Global> {
 impl<A: Allocator + Copy> Model for Operation<A> {
     ghost use Rattle.std.specs.Prelude.{◌≡◌, ◌≤◌, length, drop};
     ghost use Rattle.std.specs.List.{slice_range};
-    ghost use Rattle.card_terminal.specs.OwnedExchange.{over_data, IsSound};
+    ghost use Rattle.exchange_core.specs.OwnedExchange.{over_data, IsSound};
     ghost use Rattle.card_terminal.specs.TerminalSide.{OperationOf};
     ghost use Rattle.card_terminal.specs.OperationRoom.{IsPart};
 

@@ -1,5 +1,5 @@
 use Rattle.std.proofs.Common.{refl, ap, sym, ◌∙◌, inl, arith}
-use Rattle.card_terminal.specs.ExchangeSide.{exchange_turn}
+use Rattle.exchange_core.specs.ExchangeSide.{exchange_turn}
 use Rattle.card_terminal.specs.Conversing.{next_plan}
 use Rattle.card_terminal.specs.Line.{line, left}
 use Rattle.card_terminal.proofs.SessionLemmas.{on_ok, still_going, still_sending, still_over, terminal_passed, on_too, listening_sends_nothing}

@@ -1,6 +1,6 @@
 use Rattle.std.specs.List.{flat_map}
-use Rattle.card_terminal.specs.Gathered.{dialogues_of}
-use Rattle.card_terminal.specs.ExchangeSide.{so_far}
+use Rattle.exchange_core.specs.Gathered.{dialogues_of}
+use Rattle.exchange_core.specs.ExchangeSide.{so_far}
 use Rattle.card_terminal.proofs.FetchLemmas.{goes_by_runs}
 use Rattle.card_terminal.proofs.BoundLemmas.{open_exchange_brings, so_far_brings}
 use Rattle.card_terminal.proofs.talk_laws.an_exchange_fits.Goals as goal

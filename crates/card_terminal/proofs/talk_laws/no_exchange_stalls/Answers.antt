@@ -1,5 +1,5 @@
 use Rattle.std.specs.List.{flat_map}
-use Rattle.card_terminal.specs.Gathered.{dialogues_of}
+use Rattle.exchange_core.specs.Gathered.{dialogues_of}
 use Rattle.card_terminal.proofs.FetchLemmas.{goes_by_runs}
 use Rattle.card_terminal.proofs.BoundLemmas.{never_stalls}
 use Rattle.card_terminal.proofs.talk_laws.no_exchange_stalls.Goals as goal

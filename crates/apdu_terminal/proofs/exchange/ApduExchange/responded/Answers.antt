@@ -1,7 +1,7 @@
 use Rattle.std.proofs.Common.{rules, ap, sym, ◌∙◌, length, arith, length-append, ℕ, ◌+◌, ◌*◌, ◌≤◌, Bool, true, false}
 use Rattle.t0_core.specs.Room.{Room}
-use Rattle.card_terminal.specs.declared.attempt.Next.TheVariants as next
-use Rattle.card_terminal.specs.Attempts.{most_begun, one_more}
+use Rattle.exchange_core.specs.declared.attempt.Next.TheVariants as next
+use Rattle.exchange_core.specs.Attempts.{most_begun, one_more}
 use Rattle.apdu_terminal.proofs.LedLemmas.{seen_led}
 use Rattle.apdu_terminal.proofs.CardLemmas.{seen_falls}
 use Rattle.apdu_terminal.proofs.exchange.ApduExchange.responded.Goals as goal

@@ -3,7 +3,7 @@ use Rattle.std.specs.List.{AllByRecursion}
 use Rattle.object_card.specs.State.{IsCardState}
 use Rattle.object_card.specs.Agreed.{IsAgreed}
 use Rattle.card_terminal.specs.Conversing.{point}
-use Rattle.card_terminal.specs.ExchangeSide.{response_limit}
+use Rattle.exchange_core.specs.ExchangeSide.{response_limit}
 use Rattle.card_terminal.proofs.RunLemmas.{HaveBeen}
 use Rattle.card_terminal.proofs.session.Session.chain.Given as goal
 

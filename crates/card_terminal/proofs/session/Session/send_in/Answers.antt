@@ -1,6 +1,6 @@
 use Rattle.std.proofs.Common.{sym, subst, ap, ◌∙◌}
 use Rattle.t0_core.specs.Room.{Room}
-use Rattle.object_card.specs.OneStep.{Reply}
+use Rattle.apdu_core.specs.Shared.{Reply}
 use Rattle.card_terminal.specs.Conversing.{point}
 use Rattle.card_terminal.proofs.RunLemmas.{Sent}
 use Rattle.card_terminal.proofs.session.Session.send_in.Goals as goal

@@ -1,5 +1,5 @@
 use Rattle.std.proofs.Common.{◌∙◌, ◌≤◌, ap, subst, length}
-use Rattle.object_card.specs.declared.limits.TheConstants.{RESPONSE_LIMIT}
+use Rattle.apdu_core.specs.declared.shared.TheConstants.{RESPONSE_LIMIT}
 use Rattle.object_card.specs.State.{IsCardState, is_idle, waiting}
 use Rattle.object_card.specs.CardFields.{entries_at}
 use Rattle.object_card.specs.CardView.{CardView, stands_idle}

@@ -1,7 +1,7 @@
 use Rattle.std.proofs.Common.{[], ◌∙◌, arith, ap, length, subst}
 use Rattle.t0_core.specs.Room.{Room}
-use Rattle.card_terminal.specs.declared.wanted.Wanted.{Wanted}
-use Rattle.card_terminal.specs.Gathered.{wanted_by}
+use Rattle.exchange_core.specs.declared.wanted.Wanted.{Wanted}
+use Rattle.exchange_core.specs.Gathered.{wanted_by}
 use Rattle.apdu_terminal.specs.ApduSide.{ComesTo, of_mark}
 use Rattle.card_terminal.specs.PieceLaws.{next_front}
 use Rattle.card_terminal.specs.TalkLaws.{some_command}

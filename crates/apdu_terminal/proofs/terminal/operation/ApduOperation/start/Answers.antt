@@ -1,7 +1,7 @@
 use Rattle.std.proofs.Common.{List, [], ℕ, ◌++◌, ◌∙◌, ap, length, subst, arith}
 use Rattle.t0_core.specs.Room.{Room}
-use Rattle.card_terminal.specs.declared.wanted.Wanted.{Wanted}
-use Rattle.card_terminal.specs.Gathered.{wanted_by}
+use Rattle.exchange_core.specs.declared.wanted.Wanted.{Wanted}
+use Rattle.exchange_core.specs.Gathered.{wanted_by}
 use Rattle.apdu_terminal.specs.ApduSide.{ComesTo, of_mark}
 use Rattle.apdu_terminal.proofs.OperationLemmas.{begins_with, part_first}
 use Rattle.apdu_terminal.proofs.terminal.operation.ApduOperation.start.Goals as goal

@@ -1,10 +1,11 @@
 use Rattle.std.proofs.Common.{List, ℕ, Some, None, Option, refl, subst}
 use Rattle.std.specs.List.{slice_range}
 use Rattle.apdu_core.specs.CommandBytes.{Command}
-use Rattle.card_terminal.specs.OwnedExchange.{over_data}
+use Rattle.exchange_core.specs.OwnedExchange.{over_data}
 use Rattle.card_terminal.specs.PieceLaws.{rest_seen}
 use Rattle.card_terminal.specs.TerminalSide.{OperationOf}
-use Rattle.card_terminal.specs.Unsent.{IsFirst, IsUnsent}
+use Rattle.exchange_core.specs.Unsent.{IsFirst}
+use Rattle.card_terminal.specs.Unsent.{IsUnsent}
 use Rattle.card_terminal.proofs.UnsentLemmas.{none_unsent, unsent_at}
 use Rattle.card_terminal.proofs.terminal.operation.Operation.unsent.Goals as goal
 

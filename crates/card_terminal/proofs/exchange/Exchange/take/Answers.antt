@@ -1,5 +1,0 @@
-use Rattle.std.proofs.Common.{sym}
-use Rattle.card_terminal.proofs.exchange.Exchange.take.Goals as goal
-
-pub returns-clause-taking : goal.returns-clause-taking
-returns-clause-taking g c = rw (sym c.self.view_is) c.taken_by.ensures.taking

@@ -1,0 +1,17 @@
+pub mod BufferLemmas
+pub mod UnitLemmas
+pub mod OwnedLemmas
+pub mod HandingLemmas
+pub mod TakingLemmas
+pub mod ExchangeLemmas
+pub mod EndLemmas
+pub mod ComesToLemmas
+pub mod WholeTpduLemmas
+pub mod PrefixLemmas
+pub mod OverLemmas
+pub mod TurnLemmas
+pub mod CuttingLemmas
+pub mod Vectors
+pub mod ObjectLemmas
+pub mod UnsentLemmas
+pub mod SentLemmas

@@ -1,0 +1,5 @@
+use Rattle.exchange_core.proofs.PrefixLemmas.{led_begins}
+use Rattle.exchange_core.proofs.laws.what_led_begins_an_exchange.Goals as goal
+
+pub returns : goal.returns
+returns c = led_begins

@@ -1,0 +1,11 @@
+pub mod Gathered
+pub mod Attempts
+pub mod Buffers
+pub mod ExchangeSide
+pub mod ExchangeHistory
+pub mod ExchangeSteps
+pub mod OwnedExchange
+pub mod OneObject
+pub mod Unsent
+pub mod SentData
+pub mod FaultText

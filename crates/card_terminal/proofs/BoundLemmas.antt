@@ -18,7 +18,7 @@ use Rattle.exchange_core.specs.declared.wanted.Wanted.{Wanted}
 use Rattle.exchange_core.specs.declared.wanted.Wanted.TheVariants.{Bytes, Everything}
 use Rattle.exchange_core.specs.Gathered.{UnitOf, Single, Repeated, Opening, By_command, By_fetch, OpensWith, first_of, last_of, dialogues_of, unit_data, after_unit, after_dialogue, smaller, wants_some, fetched_of, fetched_after, repeated_with, correction_of, IsUnit, AreFollowed, IsOpenExchange, wanted_by}
 use Rattle.exchange_core.specs.ExchangeSide.{Stall, so_far, begun_with}
-use Rattle.exchange_core.proofs.UnitLemmas.{gathered_parts}
+use Rattle.exchange_core.specs.UnitLaws.{gathered_parts}
 use Rattle.t0_core.specs.DialogueLaws.{flat_map_last}
 use Rattle.card_terminal.proofs.FetchLemmas.{Goes, goes_apart, goes_sound}
 

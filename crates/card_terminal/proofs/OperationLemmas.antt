@@ -14,7 +14,7 @@ use Rattle.object_card.specs.OperationLaws.{select_is_carried_out, get_is_carrie
 use Rattle.exchange_core.specs.declared.wanted.Wanted.TheVariants.{Everything}
 use Rattle.exchange_core.specs.Gathered.{UnitOf, Single, Repeated, Asks, SendsFrom, first_of, dialogues_of, repeated_with, after_dialogue, correction_of, IsUnit}
 use Rattle.card_terminal.proofs.FetchLemmas.{Goes, Rest, sent_data}
-use Rattle.exchange_core.proofs.PrefixLemmas.{correction_is}
+use Rattle.exchange_core.specs.PrefixLaws.{correction_is}
 
 pub select_answers : (old mid new : CardState) (aid : List ℕ) (d : Dialogue) (content : List ℕ)
     (status : StatusWord) → is_idle old.pending ≡ true → IsAid aid

@@ -22,8 +22,8 @@ use Rattle.exchange_core.specs.OwnedExchange.{ExchangeMarkOf, over_data, IsSound
 use Rattle.card_terminal.specs.OperationRoom.{IsPart, BeginsWith}
 use Rattle.card_terminal.specs.TerminalSide.{OperationOf, AreLeft, LeadsTo, GoesToNext, GoByCharacters, operation_sent}
 use Rattle.card_terminal.specs.PieceLaws.{IsFrontOf, left_is, left_after, chain_of, opening_front, next_front, rest_seen}
-use Rattle.exchange_core.proofs.OwnedLemmas.{bounded}
-use Rattle.exchange_core.proofs.TurnLemmas.{opening_turn}
+use Rattle.exchange_core.specs.OwnedLaws.{bounded}
+use Rattle.exchange_core.specs.TurnLaws.{opening_turn}
 use Rattle.card_terminal.proofs.TerminalLemmas.{one_begins, first_begins}
 
 pub part_of : (items content : List ℕ) (from until : ℕ) (ex : ExchangeMarkOf)

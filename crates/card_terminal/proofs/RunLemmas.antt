@@ -34,8 +34,8 @@ use Rattle.card_terminal.specs.Operations.{operation_of}
 use Rattle.card_terminal.specs.Running.{new_answers, carried_out}
 use Rattle.card_terminal.specs.RunLaws.{HaveReplies, no_replies, one_more_reply, replies_come}
 use Rattle.card_terminal.proofs.FetchLemmas.{Goes, goes_by_runs, goes_sound}
-use Rattle.exchange_core.proofs.OwnedLemmas.{same_done}
-use Rattle.exchange_core.proofs.ComesToLemmas.{over_turn}
+use Rattle.exchange_core.specs.OwnedLaws.{same_done}
+use Rattle.exchange_core.specs.ComesToLaws.{over_turn}
 use Rattle.card_terminal.proofs.GoneLemmas.{gone_both}
 use Rattle.card_terminal.proofs.BoundLemmas.{so_far_brings, never_stalls}
 use Rattle.card_terminal.proofs.TalkLemmas.{own_talk_answers}

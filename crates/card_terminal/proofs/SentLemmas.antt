@@ -11,7 +11,7 @@ use Rattle.exchange_core.specs.SentData.{TellsSent}
 use Rattle.card_terminal.specs.SentData.{TellsTerminalSent}
 use Rattle.card_terminal.specs.TerminalSide.{OperationOf, operation_sent}
 use Rattle.card_terminal.proofs.TerminalLemmas.{answer_led}
-use Rattle.exchange_core.proofs.SentLemmas.{tells_sent_as, tells_sent}
+use Rattle.exchange_core.specs.SentLaws.{tells_sent_as, tells_sent}
 
 pub tells_operation_sent : (o : OperationOf) (sent : DataSent) → sent ≡ operation_sent o
     → TellsTerminalSent (Some o) (Some sent)

@@ -45,9 +45,9 @@ use Rattle.exchange_core.specs.ExchangeSide.{ExchangeOf, HostAsks, HostSends, Ho
 use Rattle.card_terminal.specs.Conversing.{Point, point, next_plan, HaveGone, HasStalled, HasOverflown, IsCaused, here, steps_in, is_done, most_tpdus}
 use Rattle.card_terminal.specs.Line.{Line, Start, line, HearsOne, point_of, Begins, left, IsAtPlan, StandsUnder, IsGoing, IsDone, IsOneOf, HasPassed}
 use Rattle.card_terminal.proofs.GoneLemmas.{none_gone, one_gone, gone_both}
-use Rattle.exchange_core.proofs.UnitLemmas.{unit_ends, unit_goes_on, unit_dialogues}
-use Rattle.exchange_core.proofs.EndLemmas.{asked_card}
-use Rattle.exchange_core.proofs.ComesToLemmas.{over_turn}
+use Rattle.exchange_core.specs.UnitLaws.{unit_ends, unit_goes_on, unit_dialogues}
+use Rattle.exchange_core.specs.EndLaws.{asked_card}
+use Rattle.exchange_core.specs.ComesToLaws.{over_turn}
 
 -- ---- plans in turn
 

@@ -21,7 +21,7 @@ use Rattle.object_card.specs.CardMeaning.{Does, refuses, selects_application, se
 use Rattle.exchange_core.specs.declared.wanted.Wanted.{Wanted}
 use Rattle.exchange_core.specs.Gathered.{UnitOf, IsUnit, wanted_by, after_unit, fetched_after, last_of, Single, Repeated, By_command, Gathers, AreFollowed}
 use Rattle.card_terminal.specs.Talk.{select_command, get_command, Talk}
-use Rattle.exchange_core.proofs.Vectors as row
+use Rattle.exchange_core.specs.RowLaws as row
 
 abbrev aid : List ℕ
 aid = 0xA0 ∷ 0x00 ∷ 0x00 ∷ 0x00 ∷ 0x03 ∷ 0x10 ∷ 0x10 ∷ []

@@ -15,7 +15,7 @@ use Rattle.exchange_core.specs.ExchangeSide.{ExchangeOf, IsBounded, exchange_tur
 use Rattle.exchange_core.specs.ExchangeSteps.{IsTurn, IsTaking, SendsOne, TakesOne}
 use Rattle.card_terminal.specs.TerminalSide.{OperationOf, IsSettled, GoesOver, GoesToNext, with_exchange}
 use Rattle.card_terminal.specs.TerminalSteps.{IsTerminalTurn, IsTerminalHandingOut, IsTerminalTaking}
-use Rattle.exchange_core.proofs.TurnLemmas.{not_listening}
+use Rattle.exchange_core.specs.TurnLaws.{not_listening}
 use Rattle.card_terminal.proofs.TerminalStepLemmas.{turns, takes, stays}
 
 -- a turn of a terminal with an operation

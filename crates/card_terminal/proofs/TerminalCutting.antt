@@ -15,9 +15,9 @@ use Rattle.exchange_core.specs.ExchangeSide.{ExchangeOf, exchange_turn}
 use Rattle.exchange_core.specs.ExchangeHistory.{ComesTo, Expects, BeginsExchange, FaultCameLast, unit_characters}
 use Rattle.card_terminal.specs.TerminalSide.{OperationOf, AreLeft, HasCome, LeadsTo, IsSettled}
 use Rattle.card_terminal.specs.TerminalHistory.{HaveValidIns, HaveRoom, brought_by}
-use Rattle.exchange_core.proofs.CuttingLemmas.{AreAll, Comes, ends, continues, if_room, at_end, at_character, not_failed, is_whole, split_all, none_before, comes, led_within, same_whole}
-use Rattle.exchange_core.proofs.PrefixLemmas.{led_begins}
-use Rattle.exchange_core.proofs.UnitLemmas.{few_tpdus}
+use Rattle.exchange_core.specs.CuttingLaws.{AreAll, Comes, ends, continues, if_room, at_end, at_character, not_failed, is_whole, split_all, none_before, comes, led_within, same_whole}
+use Rattle.exchange_core.specs.PrefixLaws.{led_begins}
+use Rattle.exchange_core.specs.UnitLaws.{few_tpdus}
 use Rattle.card_terminal.proofs.TerminalLemmas.{come_as, none_left}
 
 -- the characters of one exchange, and of those after it

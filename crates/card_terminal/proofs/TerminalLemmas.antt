@@ -17,7 +17,7 @@ use Rattle.card_terminal.specs.Talk.{AreExchangesOf, talk_dialogues, talk_charac
 use Rattle.exchange_core.specs.ExchangeSide.{ExchangeOf, exchange_turn, exchange_sent}
 use Rattle.exchange_core.specs.ExchangeHistory.{ComesTo, unit_characters}
 use Rattle.card_terminal.specs.TerminalSide.{OperationOf, AreLeft, HasCome, LeadsThrough, IsSettled, GoesToNext, GoesOver, operation_sent, with_exchange}
-use Rattle.exchange_core.proofs.ComesToLemmas.{end_leads}
+use Rattle.exchange_core.specs.ComesToLaws.{end_leads}
 use Rattle.card_terminal.proofs.TalkListLemmas.{taken_more, taken_to_end, one_more_exchange, all_both}
 use Rattle.card_terminal.specs.TalkLaws.{is_ok_or_not}
 

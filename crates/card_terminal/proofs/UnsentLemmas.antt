@@ -25,7 +25,7 @@ use Rattle.card_terminal.specs.Talk.{AreTakenUpTo}
 use Rattle.card_terminal.specs.TerminalSide.{OperationOf, AreLeft}
 use Rattle.exchange_core.specs.Unsent.{le_by, is_unsent, IsFirst}
 use Rattle.card_terminal.specs.Unsent.{IsUnsent}
-use Rattle.exchange_core.proofs.UnsentLemmas.{first_is, Unsending, unsending, read_from}
+use Rattle.exchange_core.specs.UnsentLaws.{first_is, Unsending, unsending, read_from}
 
 -- the first of the operation's commands
 first_of : (commands : List Command) (c : Command) (more : List Command) → c ∷ more ≡ commands

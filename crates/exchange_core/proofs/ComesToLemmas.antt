@@ -1,6 +1,6 @@
 -- The characters that led to an exchange lead to the next state with one more character.
 use Rattle.std.proofs.Common.{◌≡◌, ℕ, List, [], ◌∷◌, ◌++◌, refl, sym, ◌∙◌, ap, inl, inr, ◌⊎◌, true, false, Bool, Option, Some, None, append-nil, append_assoc, if◌then◌else◌}
-use Rattle.std.specs.List.{AllByRecursion, flat_map}
+use Rattle.std.specs.List.{flat_map}
 use Rattle.apdu_core.specs.StatusWord.{StatusWord}
 use Rattle.apdu_core.specs.CommandBytes.{Command}
 use Rattle.t0_core.specs.declared.end.End.TheVariants.{Terminal, Card}
@@ -15,12 +15,12 @@ use Rattle.t0_core.specs.FrontLaws.{goes_on}
 use Rattle.t0_core.specs.DialogueLaws.{flat_map_last, ends_with, all_more}
 use Rattle.t0_core.specs.HostSide.{Hosting, turn_of, fault_of, at_stage, after_fault}
 use Rattle.t0_core.specs.HostLaws.{after_done, after_failure, going}
-use Rattle.t0_core.specs.DataSent.{sent_in_all, Tells}
-use Rattle.exchange_core.specs.Gathered.{UnitOf, Gathers, dialogues_of}
-use Rattle.exchange_core.specs.ExchangeSide.{ExchangeOf, UnderWay, IsOver, IsKept, IsAtEnd, Stall, Continues, so_far, ended_with, exchange_turn, exchange_sent, is_final}
-use Rattle.exchange_core.specs.ExchangeHistory.{unit_characters, characters_to, ComesTo, to_front, to_end, to_stall, to_fault}
-use Rattle.exchange_core.proofs.UnitLemmas.{unit_ends, unit_goes_on, unit_dialogues}
+use Rattle.exchange_core.specs.Gathered.{UnitOf}
+use Rattle.exchange_core.specs.ExchangeSide.{ExchangeOf, UnderWay, IsKept, IsAtEnd, Stall, Continues, so_far, ended_with, exchange_turn, is_final}
+use Rattle.exchange_core.specs.ExchangeHistory.{characters_to, ComesTo, to_front, to_end, to_stall, to_fault}
 use Rattle.exchange_core.proofs.EndLemmas.{ended_at}
+use Rattle.exchange_core.specs.ComesToLaws.{final_is_no_end, over_turn, some_fault}
+use Rattle.exchange_core.specs.UnitLaws.{unit_dialogues, unit_ends, unit_goes_on}
 
 -- one more character of a front, and the last of a dialogue
 front_more : (came : List Character) (ds : List Dialogue) (front new : Front) (ch : Character)
@@ -53,12 +53,6 @@ done_sends_nothing status byte turn done sends = absurd (cc)
 
 pub failed_sends_nothing : (byte : ℕ) (turn : HostTurn) → turn ≡ Failed → turn ≡ Sends byte → ⊥
 failed_sends_nothing byte turn failed sends = absurd (cc)
-
--- the turn of an exchange that has ended is `Done`
-pub over_turn : (c : Command) (ex : ExchangeOf) (units : List UnitOf) (status : StatusWord)
-    → IsOver c ex units status → exchange_turn ex ≡ Done status
-over_turn c ex units status over = ap (λ b. if b then Failed else turn_of ex.host) over.going
-    ∙ over.done
 
 pub next_leads : (c : Command) (came : List Character) (ex new : ExchangeOf) (byte : ℕ)
     → exchange_turn ex ≡ Sends byte
@@ -101,17 +95,6 @@ pub none_at_end : (ex : ExchangeOf) (byte : ℕ) → IsKept ex → None ≡ faul
     → IsAtEnd ex → ⊥
 none_at_end ex byte kept taken end =
     let over = at_end_fault ex byte kept end in absurd (cc)
-
--- a final fault is not `AfterEnd`
-pub final_is_no_end : (fault : LineFault) → is_final fault ≡ true → fault ≡ AfterEnd → ⊥
-final_is_no_end (BadProcedure byte) final is = absurd (cc)
-final_is_no_end AfterEnd final is = absurd (cc)
-final_is_no_end TooLong final is = absurd (cc)
-final_is_no_end Stalled final is = absurd (cc)
-final_is_no_end NotListening final is = absurd (cc)
-
-pub some_fault : (a b : LineFault) → Some a ≡ Some b → a ≡ b
-some_fault a b e = cc
 
 end_of : (c : Command) (came : List Character) (ex : ExchangeOf) → ComesTo c came ex
     → ((units : List UnitOf) × (first : Option Dialogue) × (front : Front)
@@ -219,20 +202,3 @@ broken host new AfterEnd is final = absurd (cc)
 broken host new TooLong is final = ap turn_of is
 broken host new Stalled is final = ap turn_of is
 broken host new NotListening is final = absurd (cc)
-
--- the characters of an exchange that has ended are those of a whole one
-pub end_leads : (c : Command) (came : List Character) (ex : ExchangeOf) (status : StatusWord)
-    → exchange_turn ex ≡ Done status → ComesTo c came ex
-    → (units : List UnitOf) × Gathers c units ex.gather.bytes status
-    × (came ≡ unit_characters units) × AllByRecursion IsDialogue (flat_map dialogues_of units)
-    × Tells (exchange_sent ex) (sent_in_all (flat_map dialogues_of units))
-end_leads c came ex status done (to_front units first front under is) =
-    absurd (going ex.host front status under.stands
-    (ap (λ b. if b then Failed else turn_of ex.host) (sym under.going) ∙ done))
-end_leads c came ex status done (to_end units other over is) =
-    let turn = over_turn c ex units other over in
-    let same : other ≡ status = cc in
-    (units, rw same at over.gathers, is, over.are_dialogues, over.sent_is)
-end_leads c came ex status done (to_stall units stall are failed is) = absurd (cc)
-end_leads c came ex status done
-    (to_fault units first front before b fault under why final failed same is) = absurd (cc)

@@ -12,12 +12,12 @@ use Rattle.t0_core.specs.Buffers.{Steps, HandsOut, IsDataTurn}
 use Rattle.exchange_core.specs.declared.attempt.Attempt.{Attempt}
 use Rattle.exchange_core.specs.declared.wanted.Wanted.{Wanted}
 use Rattle.exchange_core.specs.Buffers.{IsHandingOut}
-use Rattle.exchange_core.proofs.BufferLemmas.{one_handed}
 use Rattle.exchange_core.specs.ExchangeSide.{ExchangeOf, IsKept, exchange_turn}
 use Rattle.exchange_core.specs.ExchangeSteps.{IsTurn, SendsOne}
 use Rattle.exchange_core.specs.OwnedExchange.{of_parts}
 use Rattle.exchange_core.proofs.OwnedLemmas.{same_sent, turned}
 use Rattle.exchange_core.proofs.TurnLemmas.{over_by_turn}
+use Rattle.exchange_core.specs.BufferLaws.{one_handed}
 
 -- Since it began, the end of an exchange has written `at` characters to the buffer, whatever the
 -- other fields of the exchange.

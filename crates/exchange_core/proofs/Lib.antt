@@ -1,4 +1,3 @@
-pub mod BufferLemmas
 pub mod UnitLemmas
 pub mod OwnedLemmas
 pub mod HandingLemmas
@@ -7,11 +6,7 @@ pub mod ExchangeLemmas
 pub mod EndLemmas
 pub mod ComesToLemmas
 pub mod WholeTpduLemmas
-pub mod PrefixLemmas
 pub mod OverLemmas
 pub mod TurnLemmas
-pub mod CuttingLemmas
 pub mod Vectors
 pub mod ObjectLemmas
-pub mod UnsentLemmas
-pub mod SentLemmas

@@ -8,10 +8,7 @@ use Rattle.exchange_core.specs.declared.wanted.Wanted.{Wanted}
 use Rattle.exchange_core.specs.Gathered.{wanted_by, after_unit, repeated_with, fetched_after, Opening, By_command, By_fetch, UnitOf, last_of, IsUnit, IsFollowed, AreFollowed, Gathers}
 use Rattle.exchange_core.specs.ExchangeSide.{ExchangeOf, ended_with, IsOver, Stall, Continues}
 use Rattle.exchange_core.proofs.UnitLemmas.{followed_left}
-
-pub none_or_some : (found : Option ℕ) (n : ℕ) → found ≡ None → found ≡ Some n → ⊥
-none_or_some None n none some = absurd (cc)
-none_or_some (Some m) n none some = absurd (cc)
+use Rattle.exchange_core.specs.UnitLaws.{none_or_some}
 
 -- these units determine what is still wanted
 same_left : (c : Command) (units : List UnitOf) (opening other : Opening) (left wanted : Wanted)

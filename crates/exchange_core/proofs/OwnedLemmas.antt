@@ -1,5 +1,5 @@
 -- The mark of an exchange, and the exchange that is made of it again.
-use Rattle.std.proofs.Common.{◌≡◌, ℕ, ◌≤◌, ◌+◌, ◌*◌, List, length, refl, sym, subst, ap, ◌∙◌, Some, None, Bool, true, false, if◌then◌else◌, arith}
+use Rattle.std.proofs.Common.{◌≡◌, ℕ, List, refl, sym, subst, ap, ◌∙◌, Some, None, Bool, false, if◌then◌else◌}
 use Rattle.apdu_core.specs.StatusWord.{StatusWord}
 use Rattle.t0_core.specs.declared.end.End.TheVariants.{Terminal}
 use Rattle.t0_core.specs.declared.host_end.HostTurn.{HostTurn}
@@ -13,13 +13,14 @@ use Rattle.t0_core.specs.DataSent.{IsKnown}
 use Rattle.t0_core.specs.DataSentLaws.{sends_known}
 use Rattle.exchange_core.specs.declared.attempt.Attempt.{Attempt}
 use Rattle.exchange_core.specs.declared.wanted.Wanted.{Wanted}
-use Rattle.exchange_core.specs.Attempts.{most_begun, one_more}
 use Rattle.exchange_core.specs.Gathered.{Gathers}
-use Rattle.exchange_core.specs.ExchangeSide.{ExchangeOf, IsKept, IsBounded, exchange_turn}
+use Rattle.exchange_core.specs.ExchangeSide.{ExchangeOf, IsKept, exchange_turn}
 use Rattle.exchange_core.specs.ExchangeSteps.{IsTurn, IsAnswer}
 use Rattle.exchange_core.specs.OwnedExchange.{of_parts}
+use Rattle.exchange_core.proofs.ComesToLemmas.{next_leads}
 use Rattle.exchange_core.proofs.ExchangeLemmas.{sends_further, with_host}
-use Rattle.exchange_core.proofs.ComesToLemmas.{end_leads, next_leads}
+use Rattle.exchange_core.specs.ComesToLaws.{end_leads}
+use Rattle.exchange_core.specs.OwnedLaws.{bounded, same_done}
 
 pub no_answer : (ex : ExchangeOf)
     → ((status : StatusWord) → exchange_turn ex ≡ Done status → ⊥) → IsAnswer ex None
@@ -28,9 +29,6 @@ no_answer ex none = record {
   undone = λ _. refl;
   led = λ c came leads. tt;
 }
-
-pub same_done : (a b : StatusWord) → Done a ≡ Done b → a ≡ b
-same_done a b e = cc
 
 pub answers : (ex : ExchangeOf) (status : StatusWord) (bytes : List ℕ)
     → exchange_turn ex ≡ Done status → bytes ≡ ex.gather.bytes → IsAnswer ex (Some (status, bytes))
@@ -66,22 +64,6 @@ pub end_has_only : (mark : HostMark) (content : List ℕ) (host : Hosting)
     → host ≡ with_data mark content → HasOnly content host
 end_has_only mark content host is =
     rw is refl
-
-begun_within : (fetches repeats : Bool) (before number bytes : ℕ) → before ≤ bytes
-    → number ≤ most_begun fetches before + one_more repeats → number ≤ 2 * (bytes + 2)
-begun_within false false before number bytes begun most = omega (arith, begun, most)
-begun_within false true before number bytes begun most = omega (arith, begun, most)
-begun_within true false before number bytes begun most = omega (arith, begun, most)
-begun_within true true before number bytes begun most = omega (arith, begun, most)
-
--- the bounds of an exchange
-pub bounded : (ex : ExchangeOf) → IsKept ex → IsBounded ex
-bounded ex kept = record {
-  room = kept.room;
-  fits = kept.fits;
-  tpdus = begun_within ex.attempt.fetches ex.attempt.repeats ex.attempt.before ex.attempt.number
-      (length ex.gather.bytes) kept.counted.begun kept.counted.number;
-}
 
 -- a turn of its end is one of the exchange
 pub turned : (ex : ExchangeOf) (turn : HostTurn) (host : Hosting) → IsKept ex

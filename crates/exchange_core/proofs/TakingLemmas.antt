@@ -22,13 +22,13 @@ use Rattle.exchange_core.specs.Gathered.{UnitOf}
 use Rattle.t0_core.specs.HostMark.{HasOnly}
 use Rattle.t0_core.specs.Buffers.{Steps, IsDataTaken, Taker}
 use Rattle.exchange_core.specs.Buffers.{IsTakingAll}
-use Rattle.exchange_core.proofs.BufferLemmas.{one_taken, steps_on}
 use Rattle.exchange_core.specs.ExchangeSide.{ExchangeOf, UnderWay, IsKept, IsBounded, Continues, Stall, GoesByCharacters, so_far, ended_with, exchange_turn, exchange_sent, is_final}
 use Rattle.exchange_core.specs.OwnedExchange.{of_parts}
-use Rattle.exchange_core.proofs.ExchangeLemmas.{goes_further}
 use Rattle.exchange_core.specs.ExchangeSteps.{IsTaking, TakesOne}
-use Rattle.exchange_core.proofs.OwnedLemmas.{bounded}
-use Rattle.exchange_core.proofs.ComesToLemmas.{at_end_fault, none_at_end, take_leads, stall_leads, fault_leads}
+use Rattle.exchange_core.proofs.ComesToLemmas.{at_end_fault, fault_leads, none_at_end, stall_leads, take_leads}
+use Rattle.exchange_core.proofs.ExchangeLemmas.{goes_further}
+use Rattle.exchange_core.specs.BufferLaws.{one_taken, steps_on}
+use Rattle.exchange_core.specs.OwnedLaws.{bounded}
 
 -- ---- one character
 

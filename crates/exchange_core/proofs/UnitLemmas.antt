@@ -1,7 +1,6 @@
 -- Units one after another: one more of them, their dialogues and their data.
-use Rattle.std.proofs.Common.{◌≡◌, ◌≢◌, ◌≤◌, ◌*◌, lit≤, ℕ, ◌+◌, List, [], ◌∷◌, ◌++◌, length, refl, sym, ◌∙◌, ap, arith, Option, Some, None, append-nil, append_assoc, length-append}
+use Rattle.std.proofs.Common.{◌≡◌, ℕ, ◌+◌, List, [], ◌∷◌, ◌++◌, length, refl, sym, ◌∙◌, ap, arith, Option, Some, None, append-nil, length-append}
 use Rattle.std.specs.List.{flat_map}
-use Rattle.std.proofs.lemmas.Grind.{flat_map-append}
 use Rattle.apdu_core.specs.declared.header.Header.{Header}
 use Rattle.apdu_core.specs.StatusWord.{StatusWord}
 use Rattle.t0_core.specs.declared.direction.Direction.{Direction}
@@ -10,12 +9,10 @@ use Rattle.t0_core.specs.declared.plan.Step.{Step}
 use Rattle.t0_core.specs.Dialogue.{Body, Dialogue}
 use Rattle.t0_core.specs.Meaning.{received}
 use Rattle.t0_core.specs.Front.{from_card}
-use Rattle.t0_core.specs.DialogueLaws.{flat_map_last}
 use Rattle.exchange_core.specs.declared.wanted.Wanted.{Wanted}
 use Rattle.exchange_core.specs.declared.wanted.Wanted.TheVariants.{Bytes, Everything}
-use Rattle.apdu_core.specs.CommandBytes.{Command}
-use Rattle.exchange_core.specs.Gathered.{less, wanted_by, after_unit, Opening, By_command, By_fetch, UnitOf, Single, Repeated, dialogues_of, unit_data, IsFollowed, AreFollowed, IsOpenExchange, tpdus}
-use Rattle.exchange_core.specs.ExchangeSide.{begun_with, so_far, ended_with}
+use Rattle.exchange_core.specs.Gathered.{less, after_unit, Opening, By_fetch, UnitOf, unit_data, IsFollowed, AreFollowed}
+use Rattle.exchange_core.specs.ExchangeSide.{begun_with, ended_with}
 
 -- what is wanted less a number and then another
 pub less_less : (w : Wanted) (a b : ℕ) → less (less w a) b ≡ less w (a + b)
@@ -48,54 +45,12 @@ one_more opening w (v ∷ units) next left u n followed more = (
   one_more (By_fetch followed.0) (after_unit w v) units next left u n followed.2 more,
 )
 
--- the dialogues that have ended, and one more
-ended_dialogues : (first : Option Dialogue) (d : Dialogue)
-    → dialogues_of (ended_with first d) ≡ begun_with first ++ d ∷ []
-ended_dialogues None d = refl
-ended_dialogues (Some e) d = refl
-
-pub unit_dialogues : (units : List UnitOf) (first : Option Dialogue) (d : Dialogue)
-    → flat_map dialogues_of (units ++ ended_with first d ∷ []) ≡ so_far units first ++ d ∷ []
-unit_dialogues units first d =
-    flat_map_last dialogues_of units (ended_with first d)
-    ∙ ap (λ ds. flat_map dialogues_of units ++ ds) (ended_dialogues first d)
-    ∙ sym (append_assoc (flat_map dialogues_of units) (begun_with first) (d ∷ []))
-
-pub unit_ends : (units : List UnitOf) (first : Option Dialogue) (d : Dialogue)
-    → so_far (units ++ ended_with first d ∷ []) None ≡ so_far units first ++ d ∷ []
-unit_ends units first d = append-nil (flat_map dialogues_of (units ++ ended_with first d ∷ []))
-    ∙ unit_dialogues units first d
-
-pub unit_goes_on : (units : List UnitOf) (d : Dialogue)
-    → so_far units (Some d) ≡ so_far units None ++ d ∷ []
-unit_goes_on units d = ap (λ ds. ds ++ d ∷ []) (sym (append-nil (flat_map dialogues_of units)))
-
--- the data of the units are those of their dialogues
-pub unit_data_received : (units : List UnitOf)
-    → flat_map unit_data units ≡ flat_map received (flat_map dialogues_of units)
-unit_data_received [] = refl
-unit_data_received (u ∷ units) =
-    ap (λ ds. unit_data u ++ ds) (unit_data_received units)
-    ∙ sym (flat_map-append received (dialogues_of u) (flat_map dialogues_of units))
-
 pub ended_data : (first : Option Dialogue) (d : Dialogue)
     → unit_data (ended_with first d) ≡ flat_map received (begun_with first) ++ received d
 ended_data None d = append-nil (received d)
 ended_data (Some e) d =
     ap (λ ds. received e ++ ds) (append-nil (received d))
     ∙ ap (λ ds. ds ++ received d) (sym (append-nil (received e)))
-
--- the gathered data: those of the units, and those of the current unit
-pub gathered_parts : (units : List UnitOf) (first : Option Dialogue) (bytes : List ℕ)
-    → flat_map received (so_far units first) ++ bytes
-    ≡ flat_map unit_data units ++ (flat_map received (begun_with first) ++ bytes)
-gathered_parts units first bytes =
-    ap (λ ds. ds ++ bytes) (flat_map-append received (flat_map dialogues_of units)
-    (begun_with first))
-    ∙ append_assoc (flat_map received (flat_map dialogues_of units))
-    (flat_map received (begun_with first)) bytes
-    ∙ ap (λ ds. ds ++ (flat_map received (begun_with first) ++ bytes))
-    (sym (unit_data_received units))
 
 -- the data of a dialogue are what its body brought
 by_direction : (h : Header) (p3 : ℕ) (direction : Direction) (segments : List Step)
@@ -118,64 +73,3 @@ by_direction h p3 FromCard segments moved status = refl
 pub received_of : (b : Body) (status : StatusWord)
     → received (record { body = b; status = status }) ≡ from_card b.direction b.moved
 received_of b status = by_direction b.header b.p3 b.direction b.segments b.moved status
-
--- each unit has at most two dialogues, and each but the first and the last brings a byte
-two_at_most : (u : UnitOf) → length (dialogues_of u) ≤ 2
-two_at_most (Single d) = lit≤ tt
-two_at_most (Repeated d e) = lit≤ tt
-
-some_bytes : (bytes : List ℕ) → bytes ≢ [] → 1 ≤ length bytes
-some_bytes [] some = absurd (some refl)
-some_bytes (b ∷ bytes) some = omega arith
-
-more_tpdus : (u : UnitOf) (units : List UnitOf)
-    → length (flat_map dialogues_of (u ∷ units))
-    ≡ length (dialogues_of u) + length (flat_map dialogues_of units)
-more_tpdus u units = length-append (dialogues_of u) (flat_map dialogues_of units)
-
-more_data : (u : UnitOf) (units : List UnitOf)
-    → length (flat_map unit_data (u ∷ units))
-    ≡ length (unit_data u) + length (flat_map unit_data units)
-more_data u units = length-append (unit_data u) (flat_map unit_data units)
-
-fetched_few : (n : ℕ) (w : Wanted) (units : List UnitOf) (next : Opening) (left : Wanted)
-    → AreFollowed (By_fetch n) w units next left
-    → length (flat_map dialogues_of units) ≤ 2 * length (flat_map unit_data units)
-fetched_few n w [] next left followed = lit≤ tt
-fetched_few n w (u ∷ units) next left followed =
-    omega (
-      arith,
-      more_tpdus u units,
-      more_data u units,
-      two_at_most u,
-      some_bytes (unit_data u) followed.1.brings,
-      fetched_few followed.0 (after_unit w u) units next left followed.2,
-    )
-
-followed_few : (c : Command) (w : Wanted) (units : List UnitOf) (next : Opening) (left : Wanted)
-    → AreFollowed (By_command c) w units next left
-    → length (flat_map dialogues_of units) ≤ 2 * (length (flat_map unit_data units) + 1)
-followed_few c w [] next left followed = lit≤ tt
-followed_few c w (u ∷ units) next left followed =
-    omega (
-      arith,
-      more_tpdus u units,
-      more_data u units,
-      two_at_most u,
-      fetched_few followed.0 (after_unit w u) units next left followed.2,
-    )
-
-pub few_tpdus : (c : Command) (units : List UnitOf) → IsOpenExchange c units
-    → tpdus units ≤ 2 * (length (flat_map unit_data units) + 2)
-few_tpdus c units is =
-    omega (
-      arith,
-      ap tpdus is.units_are,
-      ap (λ us. length (flat_map unit_data us)) is.units_are,
-      ap length (flat_map_last dialogues_of is.before is.last),
-      ap length (flat_map_last unit_data is.before is.last),
-      length-append (flat_map dialogues_of is.before) (dialogues_of is.last),
-      length-append (flat_map unit_data is.before) (unit_data is.last),
-      two_at_most is.last,
-      followed_few c (wanted_by c.le) is.before is.opening is.left is.followed,
-    )

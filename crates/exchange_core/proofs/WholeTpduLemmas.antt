@@ -30,9 +30,10 @@ use Rattle.t0_core.specs.AnswerLaws.{due_is_fresh, fresh_is_due, due_sends, dial
 use Rattle.exchange_core.specs.Gathered.{UnitOf}
 use Rattle.exchange_core.specs.ExchangeSide.{ExchangeOf, UnderWay, IsKept, so_far, exchange_turn, exchange_sent}
 use Rattle.exchange_core.specs.ExchangeHistory.{ComesTo, ComesTooFar, to_front, to_end, to_stall, to_fault, characters_to}
+use Rattle.exchange_core.proofs.ComesToLemmas.{done_sends_nothing, failed_sends_nothing, failed_turn}
+use Rattle.exchange_core.proofs.ExchangeLemmas.{IsSameRequest, opened_too, place_too, sending_is_going, with_host}
 use Rattle.exchange_core.proofs.UnitLemmas.{received_of}
-use Rattle.exchange_core.proofs.ExchangeLemmas.{IsSameRequest, opened_too, place_too, with_host, sending_is_going}
-use Rattle.exchange_core.proofs.ComesToLemmas.{done_sends_nothing, failed_sends_nothing, over_turn, failed_turn}
+use Rattle.exchange_core.specs.ComesToLaws.{over_turn}
 
 -- the current TPDU is at another front, with the data that it has brought
 pub stands_at : (c : Command) (ex : ExchangeOf) (host : Hosting) (units : List UnitOf)

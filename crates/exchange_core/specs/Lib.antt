@@ -9,3 +9,14 @@ pub mod OneObject
 pub mod Unsent
 pub mod SentData
 pub mod FaultText
+pub mod BufferLaws
+pub mod ComesToLaws
+pub mod CuttingLaws
+pub mod EndLaws
+pub mod OwnedLaws
+pub mod PrefixLaws
+pub mod SentLaws
+pub mod TurnLaws
+pub mod UnitLaws
+pub mod UnsentLaws
+pub mod RowLaws

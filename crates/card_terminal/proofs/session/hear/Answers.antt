@@ -1,6 +1,6 @@
 use Rattle.std.proofs.Common.{}
 use Rattle.card_terminal.specs.Line.{HearsOne}
-use Rattle.exchange_core.proofs.BufferLemmas.{one_taken}
+use Rattle.exchange_core.specs.BufferLaws.{one_taken}
 use Rattle.card_terminal.proofs.session.hear.Goals as goal
 
 pub loop-at-preserved : goal.loop-at-preserved

@@ -1,5 +1,5 @@
 use Rattle.std.proofs.Common.{[], refl, sym, ◌∙◌, inl, append-nil}
-use Rattle.exchange_core.proofs.CuttingLemmas.{at_end, comes, is_whole}
+use Rattle.exchange_core.specs.CuttingLaws.{at_end, comes, is_whole}
 use Rattle.exchange_core.proofs.laws.a_whole_exchange_is_done.Goals as goal
 
 pub returns : goal.returns

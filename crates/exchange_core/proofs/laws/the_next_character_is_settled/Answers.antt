@@ -1,5 +1,5 @@
 use Rattle.std.proofs.Common.{◌∷◌, inr}
-use Rattle.exchange_core.proofs.CuttingLemmas.{at_character, comes, is_whole, not_failed}
+use Rattle.exchange_core.specs.CuttingLaws.{at_character, comes, is_whole, not_failed}
 use Rattle.exchange_core.proofs.laws.the_next_character_is_settled.Goals as goal
 
 pub returns : goal.returns

@@ -1,4 +1,4 @@
-use Rattle.exchange_core.proofs.PrefixLemmas.{led_begins}
+use Rattle.exchange_core.specs.PrefixLaws.{led_begins}
 use Rattle.exchange_core.proofs.laws.what_led_begins_an_exchange.Goals as goal
 
 pub returns : goal.returns

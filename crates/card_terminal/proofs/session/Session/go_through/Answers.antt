@@ -1,7 +1,7 @@
 use Rattle.std.proofs.Common.{ap, subst, ◌∙◌}
 use Rattle.object_card.specs.State.{IsCardState}
 use Rattle.card_terminal.specs.Conversing.{point}
-use Rattle.exchange_core.proofs.ComesToLemmas.{over_turn}
+use Rattle.exchange_core.specs.ComesToLaws.{over_turn}
 use Rattle.card_terminal.proofs.RunLemmas.{never_caused, stays_sound, sound_at, ok_unless, when_ok, done_is_no_character, over_then, gone_from}
 use Rattle.card_terminal.proofs.session.Session.go_through.Goals as goal
 

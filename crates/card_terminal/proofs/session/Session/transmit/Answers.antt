@@ -3,7 +3,7 @@ use Rattle.t0_core.specs.declared.line_fault.LineFault.{LineFault}
 use Rattle.card_terminal.specs.declared.session_fault.SessionFault.TheVariants.{OutOfMemory, Line}
 use Rattle.card_terminal.specs.Conversing.{point}
 use Rattle.card_terminal.specs.Line.{line, begun}
-use Rattle.exchange_core.proofs.ComesToLemmas.{over_turn}
+use Rattle.exchange_core.specs.ComesToLaws.{over_turn}
 use Rattle.card_terminal.proofs.SessionLemmas.{some_is, same_err, answered, caused}
 use Rattle.std.proofs.lemmas.Result.{err_from_is_err_and}
 use Rattle.card_terminal.proofs.session.Session.transmit.Goals as goal

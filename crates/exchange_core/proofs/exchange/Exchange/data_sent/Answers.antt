@@ -1,4 +1,4 @@
-use Rattle.exchange_core.proofs.SentLemmas.{tells_sent_as}
+use Rattle.exchange_core.specs.SentLaws.{tells_sent_as}
 use Rattle.exchange_core.proofs.exchange.Exchange.data_sent.Goals as goal
 
 pub returns : goal.returns

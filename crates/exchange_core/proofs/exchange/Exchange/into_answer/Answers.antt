@@ -3,7 +3,7 @@ use Rattle.t0_core.specs.declared.host_end.HostTurn.TheVariants.{Done}
 use Rattle.exchange_core.specs.ExchangeSide.{ExchangeOf}
 use Rattle.apdu_core.specs.Shared.{Reply}
 use Rattle.exchange_core.specs.Gathered.{Gathers}
-use Rattle.exchange_core.proofs.ComesToLemmas.{end_leads}
+use Rattle.exchange_core.specs.ComesToLaws.{end_leads}
 use Rattle.exchange_core.proofs.EndLemmas.{same_status}
 use Rattle.exchange_core.proofs.ExchangeLemmas.{told, tells}
 use Rattle.exchange_core.proofs.exchange.Exchange.into_answer.Goals as goal

@@ -1,7 +1,7 @@
 use Rattle.std.proofs.Common.{ap}
 use Rattle.exchange_core.specs.OwnedExchange.{ExchangeMarkOf, over_data}
 use Rattle.exchange_core.proofs.OwnedLemmas.{same_parts}
-use Rattle.exchange_core.proofs.SentLemmas.{tells_sent_as}
+use Rattle.exchange_core.specs.SentLaws.{tells_sent_as}
 use Rattle.exchange_core.proofs.exchange.exchange_mark.ExchangeMark.data_sent.Goals as goal
 
 pub returns : goal.returns

@@ -3,7 +3,7 @@ use Rattle.std.specs.Option.{option_map}
 use Rattle.t0_core.specs.TpduBytes.{asked_of, due_by}
 use Rattle.exchange_core.specs.OwnedExchange.{ExchangeMarkOf, over_data}
 use Rattle.exchange_core.specs.Unsent.{IsFirst}
-use Rattle.exchange_core.proofs.UnsentLemmas.{first_is}
+use Rattle.exchange_core.specs.UnsentLaws.{first_is}
 use Rattle.exchange_core.proofs.exchange.exchange_mark.ExchangeMark.unsent.Goals as goal
 
 pub returns-in-Some : goal.returns-in-Some

@@ -1,7 +1,5 @@
 -- What an exchange says of the data that the terminal has sent.
-use Rattle.std.proofs.Common.{◌≡◌, Some, Option, ap, sym, ◌∙◌}
-use Rattle.t0_core.specs.declared.host_end.HostTurn.{HostTurn}
-use Rattle.t0_core.specs.declared.host_end.HostTurn.TheVariants.{Done}
+use Rattle.std.proofs.Common.{◌≡◌, ap, sym, ◌∙◌}
 use Rattle.t0_core.specs.declared.data_sent.DataSent.{DataSent}
 use Rattle.t0_core.specs.DataSent.{both, Tells}
 use Rattle.t0_core.specs.DataSentLaws.{tells_both, tells_itself, known_both, sent_in_front, sent_after_sw1}

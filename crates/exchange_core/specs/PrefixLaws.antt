@@ -15,8 +15,8 @@ use Rattle.exchange_core.specs.declared.wanted.Wanted.{Wanted}
 use Rattle.exchange_core.specs.Gathered.{Asks, wants_at_least, correction_of, repeated_with, after_dialogue, UnitOf, Repeated, dialogues_of, IsOpenExchange, OpensWith, IsUnit, first_of}
 use Rattle.exchange_core.specs.ExchangeSide.{ExchangeOf, UnderWay, so_far, ended_with}
 use Rattle.exchange_core.specs.ExchangeHistory.{unit_characters, characters_to, ComesTo, to_front, to_end, to_stall, to_fault, BeginsExchange, FaultCameLast}
-use Rattle.exchange_core.proofs.UnitLemmas.{unit_dialogues}
-use Rattle.exchange_core.proofs.EndLemmas.{again_of, unit_is, unit_opens, some_or_none}
+use Rattle.exchange_core.specs.EndLaws.{again_of, some_or_none, unit_is, unit_opens}
+use Rattle.exchange_core.specs.UnitLaws.{unit_dialogues}
 
 -- a dialogue in which the card answers at once
 abbrev at_once : Dialogue → Dialogue

@@ -28,10 +28,9 @@ use Rattle.exchange_core.specs.Gathered.{Asks, SendsFrom, Opens, BeginsWith, wan
 use Rattle.exchange_core.specs.ExchangeSide.{ExchangeOf, HostAsks, HostSends, HostOpens, HostOpensBy, IsOpenedAs, UnderWay, begun_with, exchange_turn}
 use Rattle.exchange_core.specs.ExchangeHistory.{unit_characters, characters_to, Expects, BeginsExchange, ComesTo, to_front, to_end, to_stall, to_fault}
 use Rattle.std.proofs.lemmas.Bool.{ne_eqb}
-use Rattle.exchange_core.proofs.UnitLemmas.{gathered_parts}
-use Rattle.exchange_core.proofs.OverLemmas.{none_or_some}
-use Rattle.exchange_core.proofs.ComesToLemmas.{final_is_no_end, some_fault}
-use Rattle.exchange_core.proofs.PrefixLemmas.{led_begins}
+use Rattle.exchange_core.specs.UnitLaws.{none_or_some, gathered_parts}
+use Rattle.exchange_core.specs.ComesToLaws.{final_is_no_end, some_fault}
+use Rattle.exchange_core.specs.PrefixLaws.{led_begins}
 
 count_of_some : (n : ℕ) → 1 ≤ n → count n ≡ n
 count_of_some n some = rw (ne_eqb n 0 (λ e. omega (arith, e, some))) refl

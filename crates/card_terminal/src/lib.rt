@@ -1,11 +1,10 @@
-//! The terminal's side of commands at T=0 (ISO/IEC 7816-3, clause 12): it repeats a TPDU after
-//! `6CXX` and fetches a response after `61XX`.
+//! Operations of a terminal at T=0 (ISO/IEC 7816-3, clause 12), each a list of commands.
 //!
-//! An [`Exchange`] is one command with all its TPDUs; an [`OwnedExchange`] owns the command's data.
 //! A [`Terminal`] runs SELECT, GET DATA, a put or one command; its caller passes the characters or
 //! the whole TPDUs. A [`Session`] joins a terminal to a `t0_core::CardEnd`, and runs [`Op`]s into
 //! [`Answers`]. [`Answer`] and [`HeldAnswer`] are a status with its data. [`StartFault`],
-//! [`BeginFault`] and [`SessionFault`] are the errors. This runs a list of operations:
+//! [`BeginFault`] and [`SessionFault`] are the errors. An [`Exchange`], of `exchange_core`, is one
+//! command with all its TPDUs. This runs a list of operations:
 //!
 //! ```rust
 //! // crates/library_use/src/session.rt
@@ -13,8 +12,7 @@
 //! ```
 //!
 //! Proved: the answers of `Session::run` are those of a card that does each operation in one step.
-//! An exchange sends and takes the characters that the standard allows, and no others. The README
-//! lists the contracts; start with `specs/Gathered`. `laws`, `talk_laws`, `tap_laws` and
+//! The README lists the contracts; start with `specs/Talk`. `talk_laws`, `tap_laws` and
 //! `terminal_laws` are laws about definitions.
 #![tactic(auto)]
 

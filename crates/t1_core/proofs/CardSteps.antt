@@ -9,8 +9,11 @@ use Rattle.t1_core.specs.declared.card.Reply.TheVariants.{Ready}
 use Rattle.t1_core.specs.declared.pcb.BlockReason.TheVariants.{NoError}
 use Rattle.t1_core.specs.Block.{R, other}
 use Rattle.t1_core.specs.CardHistory.{Call, Replies, Fails, Resets, Happens, HappenAll}
-use Rattle.t1_core.specs.CardSide.{Card, Did, Meaning, Turn, carries_out, collects, forgets, replies, responds, turn}
+use Rattle.t1_core.specs.CardSide.{Card, Did, Meaning, Turn, carries_out, collects, replies, responds, turn}
 use Rattle.t1_core.specs.Doing.{DoesAll, DoesSome, EndOf, Goes, IsKeeping, IsOfSome, Keeping, Keeps, Steps, after, most_bytes, ran_with, so_far, with_end}
+
+abbrev pub without_response : Card → Card
+without_response c = record c { field = []; rest = []; answering = false }
 
 -- what the end makes of the bytes of a command so far
 abbrev Stepped : {C : Type 0} (a : Ghosts C) → (Meaning → Card → Turn) → EndOf C → Reply → EndOf C
@@ -116,21 +119,19 @@ pub on_ok : {X E : Type 0} {P Q : X → Type 0} → ((x : X) → P x → Q x) �
 on_ok f (Ok x) p = f x p
 on_ok f (Err e) p = p
 
--- `old` has dropped its response, and takes the field `f`
-module _ {C : Type 0} (a : Ghosts C) (seen old new : EndOf C) (is : seen ≡ with_end forgets old)
-    (f : List ℕ) where
-  abbrev now : EndOf C
-  now = with_end forgets old
-
-  -- the bytes of the command are too many from now on
-  pub exceeded : (seen.over ≡ true) ⊎ (a.LIMIT < length seen.at.collected + length f)
+-- `old` takes the field `f`
+module _ {C : Type 0} (a : Ghosts C) (old new : EndOf C) (f : List ℕ) where
+  -- the bytes of the command are too many from now on, and the response is dropped
+  pub exceeded : (seen : EndOf C) → seen ≡ with_end without_response old
+      → (old.over ≡ true) ⊎ (a.LIMIT < length old.at.collected + length f)
       → old.at.rest ≡ [] → new ≡ record seen {
         at = record seen.at { collected = []; due = other seen.at.due };
         over = true;
       }
       → Steps a (λ m c. collects m [] true c f) old (Ready NoError) new
-  exceeded more none new_is = λ sent keeping.
+  exceeded seen is more none new_is = λ sent keeping.
       let all : List ℕ = so_far old.over old.at.collected sent ++ f in
+      let now : EndOf C = with_end without_response old in
       let later : EndOf C = record now {
         at = record now.at { collected = []; due = other now.at.due };
         over = true;
@@ -141,11 +142,8 @@ module _ {C : Type 0} (a : Ghosts C) (seen old new : EndOf C) (is : seen ≡ wit
       }) is in (
         None,
         all,
-        subst (λ e. IsKeeping a.LIMIT e all) (sym same) (
-          refl,
-          too_many a.LIMIT old.over old.at.collected sent f keeping
-              (subst (λ e. (e.over ≡ true) ⊎ (a.LIMIT < length e.at.collected + length f)) is more),
-        ),
+        subst (λ e. IsKeeping a.LIMIT e all) (sym same)
+            (refl, too_many a.LIMIT old.over old.at.collected sent f keeping more),
         ap (λ e. a.standing e.card) same,
         λ m ran so.
             ap (λ r. turn (record (after later ran all) { rest = r })
@@ -153,20 +151,13 @@ module _ {C : Type 0} (a : Ghosts C) (seen old new : EndOf C) (is : seen ≡ wit
             ∙ sym (ap (λ e. turn (after e ran all) (R e.at.due NoError)) same),
       )
 
-  -- the last field of a command that is too long
-  pub refused : (reply : Reply)
-      → Steps a (λ m c. carries_out m c (c.ran ++ (c.collected ++ f) ∷ [])) seen reply new
-      → Steps a (λ m c. collects m [] false c f) old reply new
-  refused reply steps =
-      subst (λ e. Steps a (λ m c. carries_out m c (c.ran ++ (c.collected ++ f) ∷ [])) e reply new)
-      is steps
-
   -- the end keeps the field too
-  module _ (kept : List ℕ) (more : kept ≡ seen.at.collected ++ f) where
+  module _ (seen : EndOf C) (is : seen ≡ old) (kept : List ℕ)
+      (more : kept ≡ seen.at.collected ++ f) where
     abbrev with_field : List ℕ → EndOf C → EndOf C
     with_field bytes e = record e { at = record e.at { collected = bytes } }
 
-    field_is : with_field kept seen ≡ with_field (old.at.collected ++ f) now
+    field_is : with_field kept seen ≡ with_field (old.at.collected ++ f) old
     field_is = ap (λ bytes. with_field bytes seen) more
         ∙ ap (λ e. with_field (e.at.collected ++ f) e) is
 
@@ -197,25 +188,25 @@ module _ {C : Type 0} (a : Ghosts C) (seen old new : EndOf C) (is : seen ≡ wit
 
     module _ (before : ℕ) (many : before ≡ length seen.at.collected) where
       abbrev Cut : Type 0
-      Cut = Keeps a (λ c. record (forgets c) { collected = take before c.collected })
+      Cut = Keeps a (λ c. record c { collected = take before c.collected })
           (with_field kept seen) new
 
-      -- memory ran out: the end drops the field
-      forgot : Cut → Keeps a forgets old new
+      -- the card has refused the command: the end drops the field
+      forgot : Cut → Keeps a (λ c. c) old new
       forgot (stands, is_cut, stays) = (
         stands ∙ ap (λ e. a.standing e.card) is,
-        is_cut ∙ ap (λ (n : ℕ). record (forgets seen.at) { collected = take n kept }) many
-            ∙ ap (λ (l : List ℕ). record (forgets seen.at) {
+        is_cut ∙ ap (λ (n : ℕ). record seen.at { collected = take n kept }) many
+            ∙ ap (λ (l : List ℕ). record seen.at {
               collected = take (length seen.at.collected) l;
             }) more
-            ∙ ap (λ (l : List ℕ). record (forgets seen.at) { collected = l })
+            ∙ ap (λ (l : List ℕ). record seen.at { collected = l })
             (take-append_seam seen.at.collected f)
-            ∙ ap (λ e. forgets e.at) is,
+            ∙ ap (λ e. e.at) is,
         stays ∙ ap (λ e. e.over) is,
       )
 
       pub forgets_field : {X E : Type 0} (r : Result X E) → OnErr r Cut
-          → OnErr r (Keeps a forgets old new)
+          → OnErr r (Keeps a (λ c. c) old new)
       forgets_field (Ok x) h = h
       forgets_field (Err e) h = forgot h
 

@@ -1,5 +1,6 @@
 -- Commands one after another; each begins after the answer to the previous one.
 use Rattle.std.proofs.Common.{◌≡◌, refl, sym, ap, subst, ◌∙◌, ℕ, ◌+◌, ◌<◌, ◌≤◌, Bool, true, false, List, [], ◌∷◌, ◌++◌, length, map, take, drop, get_or, Option, Some, None, append_assoc, append-nil, length-append, arith, inl, inr}
+use Rattle.std.specs.Prelude.{Result, Ok, Err, OnErr}
 use Rattle.std.proofs.lemmas.Bool.{cases_lt}
 use Rattle.std.proofs.lemmas.List.{length-map, map-append, take-append-drop, take_more}
 use Rattle.std.proofs.Math.ListN.{drop_of_length-le}
@@ -18,7 +19,7 @@ use Rattle.t1_core.specs.CardSide.{Card, Did, Meaning, card_after, card_meets}
 use Rattle.t1_core.specs.Carried.{EndsOf, HasCarried, Past, adds, answers_in, at_rest, more, nothing_yet, with_command, world_now}
 use Rattle.t1_core.specs.Conversing.{Conversed, HasEnded}
 use Rattle.t1_core.specs.Doing.{Agrees, IsKeeping, IsOfSome, after, commands_of, meaning_of, ran_with}
-use Rattle.t1_core.specs.Passing.{Passes, PassesWith}
+use Rattle.t1_core.specs.Passing.{AreHeard, IsHeard, Passes, PassesWith}
 use Rattle.t1_core.specs.TerminalSide.{Terminal, begins, first_phase, fresh, is_ready, has_stopped, fault_in, fault_of, outcome_of, sends, sends_in, takes}
 use Rattle.t1_core.specs.World.{World, IsAtMostOnce, IsFrontOf, IsRight, IsTrue, all_blocks, arrives, exchange, exchanged, most_exchanges, responses, run, settle, size_after, start}
 use Rattle.t1_core.proofs.Calm.{never_given_up}
@@ -26,6 +27,10 @@ use Rattle.t1_core.proofs.Endless.{Takes, takes_spends}
 use Rattle.t1_core.proofs.Holding.{at_most_once}
 use Rattle.t1_core.proofs.Logs.{before_it, commands_with, does_with, log_with, own_meaning, responses_are, short_with}
 use Rattle.t1_core.proofs.Measure.{stops}
+
+pub on_err : {X E : Type 0} {P : Type 0} (r : Result X E) → P → OnErr r P
+on_err (Ok x) p = tt
+on_err (Err e) p = p
 
 -- ---- phases
 
@@ -131,6 +136,13 @@ most_more settings m commands cs =
     omega (arith, le, n)
 
 module _ {C : Type 0} (a : Ghosts C) where
+  one_more_heard : (xs ys : List Fates) (x y : Fates) → AreHeard a xs ys → IsHeard a x y
+      → AreHeard a (xs ++ x ∷ []) (ys ++ y ∷ [])
+  one_more_heard [] [] x y all one = (one, tt)
+  one_more_heard (u ∷ us) (v ∷ vs) x y (this, all) one =
+      (this, one_more_heard us vs x y all one)
+  one_more_heard _ _ x y all one = absurd all
+
   -- ---- one step of the history
 
   pub carried_at_first : (settings : Settings) (card : C) (passed : List Fates) (e : EndsOf C)
@@ -148,8 +160,10 @@ module _ {C : Type 0} (a : Ghosts C) where
         short = tt;
         sent = [];
         keeping = omega arith;
-        fates = [];
+        line = [];
         passed = sym (append-nil passed);
+        fates = [];
+        heard = tt;
         sized = settings.inside.0;
         leads = λ m h commands. refl;
         few = λ m h. omega arith;
@@ -178,8 +192,10 @@ module _ {C : Type 0} (a : Ghosts C) where
         short = h.short;
         sent = h.sent;
         keeping = h.keeping;
-        fates = h.fates;
+        line = h.line;
         passed = h.passed;
+        fates = h.fates;
+        heard = h.heard;
         sized = h.sized;
         leads = λ m g cs.
             ap (λ all. run m h.fates (start past.settings [] all))
@@ -222,7 +238,7 @@ module _ {C : Type 0} (a : Ghosts C) where
           subst (λ u. Takes e.terminal u) (sym is)
           (takes_spends e.terminal sized _ e.terminal.phase filled refl)
 
-  module _ (past : Past a.State) (command : List ℕ) (now next : List Fates) (x : Fates)
+  module _ (past : Past a.State) (command : List ℕ) (now next : List Fates) (y x : Fates)
       (e f : EndsOf C) (h : HasCarried a (with_command past command e.terminal) now e)
       (moving : has_stopped e.terminal.phase ≡ false) where
     abbrev so_far : Past a.State
@@ -239,10 +255,10 @@ module _ {C : Type 0} (a : Ghosts C) where
               ∙ stops m past.settings [] so_far.commands h.fates le in cc)
         ]
 
-    pub carried_next : next ≡ now ++ x ∷ []
+    pub carried_next : next ≡ now ++ y ∷ [] → IsHeard a y x
         → Passes a x e.terminal f.terminal e.card f.card
         → HasCarried a (with_command past command f.terminal) next f
-    carried_next one_more p =
+    carried_next one_more heard p =
         let (did, later, keeps, goes, step) = p h.sent h.keeping in record {
           did = log_with h.did did;
           does = does_with a.Does past.first (a.standing e.card.card) (a.standing f.card.card) h.did
@@ -251,9 +267,11 @@ module _ {C : Type 0} (a : Ghosts C) where
               h.short goes;
           sent = later;
           keeping = keeps;
+          line = h.line ++ y ∷ [];
+          passed = one_more ∙ ap (λ l. l ++ y ∷ []) h.passed
+              ∙ append_assoc past.passed h.line (y ∷ []);
           fates = h.fates ++ x ∷ [];
-          passed = one_more ∙ ap (λ l. l ++ x ∷ []) h.passed
-              ∙ append_assoc past.passed h.fates (x ∷ []);
+          heard = one_more_heard h.line h.fates y x h.heard heard;
           sized = (received x e f h.sent h.keeping moving h.sized p).0.1;
           leads = λ m g cs.
               let b = before_it m h.did did g in
@@ -311,8 +329,10 @@ module _ {C : Type 0} (a : Ghosts C) where
           record {
             did = h.did;
             does = h.does;
-            fates = h.fates;
+            line = h.line;
             passed = h.passed;
+            fates = h.fates;
+            heard = h.heard;
             by_blocks = subst (λ v. HasEnded v ran past.answers (fault_of t)) (sym end_is) (record {
               stopped = stop;
               ran_is = refl;
@@ -389,3 +409,69 @@ module _ {C : Type 0} (a : Ghosts C) where
         (sym (map-append items (take n vs) (drop n vs)) ∙ ap (λ l. map items l)
         (take-append-drop n vs))
         (λ ready. ap (λ l. map items l) (drop_of_length-le vs (all ready)))
+
+    -- the first commands were carried, with answers to each
+    abbrev pub SomeConversed : List Fates → Type 0
+    SomeConversed now = (count : ℕ) × (count ≤ length vs) × (last : a.State)
+        × (answers : List (List ℕ))
+        × Conversed a settings first last (map items (take count vs)) answers None passed now
+
+    none_at : (p : Phase) (t : Terminal) → is_ready p ≡ true → fault_in p t ≡ None
+    none_at Over t ready = refl
+    none_at _ t ready = absurd (cc)
+
+    stopped_at : (p : Phase) → is_ready p ≡ true → has_stopped p ≡ true
+    stopped_at Over ready = refl
+    stopped_at _ ready = absurd (cc)
+
+    some_at : (past : Past a.State) (count : ℕ) (now : List Fates) (e : EndsOf C)
+        → HasCarried a past now e → past.settings ≡ settings → past.first ≡ first
+        → past.passed ≡ passed → past.commands ≡ map items (take count vs) → count ≤ length vs
+        → is_ready e.terminal.phase ≡ true → SomeConversed now
+    some_at past count now e h is_settings is_first is_passed is_commands le ready =
+        let t = e.terminal in
+        let it = conversed past now e past.commands [] h (stopped_at t.phase ready)
+        (append-nil past.commands) (λ r. refl) in (
+          count,
+          le,
+          a.standing e.card.card,
+          past.answers,
+          subst (λ s. Conversed a s first (a.standing e.card.card) (map items (take count vs))
+              past.answers None passed now) is_settings
+              (subst (λ s. Conversed a past.settings s (a.standing e.card.card)
+              (map items (take count vs)) past.answers None passed now) is_first
+              (subst (λ s. Conversed a past.settings past.first (a.standing e.card.card)
+              (map items (take count vs)) past.answers None s now) is_passed
+              (subst (λ cs. Conversed a past.settings past.first (a.standing e.card.card) cs
+              past.answers None past.passed now) is_commands
+              (subst (λ f. Conversed a past.settings past.first (a.standing e.card.card)
+              past.commands past.answers f past.passed now) (none_at t.phase t ready) it)))),
+        )
+
+    pub some_conversed : (n : ℕ) (answers : List V) (now : List Fates) (e : EndsOf C)
+        → HasCarried a (first_of n answers) now e → n ≤ length vs
+        → is_ready e.terminal.phase ≡ true → SomeConversed now
+    some_conversed n answers now e h le ready =
+        some_at (first_of n answers) n now e h refl refl refl refl le ready
+
+    pub one_more_conversed : (n : ℕ) (v : V) (answers : List V) (c : List ℕ) (now : List Fates)
+        (e : EndsOf C)
+        → HasCarried a (with_command (first_of n answers) c e.terminal) now e
+        → n < length vs → v ≡ get_or vs n v → c ≡ items v
+        → is_ready e.terminal.phase ≡ true → SomeConversed now
+    one_more_conversed n v answers c now e h lt is same ready =
+        let so : map items (take n vs) ++ c ∷ [] ≡ map items (take (n + 1) vs) =
+        ap (λ x. map items (take n vs) ++ x ∷ []) (same ∙ ap items is)
+        ∙ sym (ap (λ l. map items l) (take_more vs n v lt)
+        ∙ map-append items (take n vs) (get_or vs n v ∷ [])) in
+        some_at (with_command (first_of n answers) c e.terminal) (n + 1) now e h refl refl refl so
+        (omega (arith, lt)) ready
+
+  pub none_conversed : {V : Type 0} (items : V → List ℕ) (settings : Settings) (card : C)
+      (passed : List Fates) (vs : List V)
+      → SomeConversed items settings (a.standing card) passed vs passed
+  none_conversed items settings card passed vs =
+      some_conversed items settings (a.standing card) passed vs 0 [] passed (record {
+        terminal = fresh settings;
+        card = record { card = card; at = card_after []; over = false };
+      }) (carried_at_first settings card passed _ refl) (omega arith) refl

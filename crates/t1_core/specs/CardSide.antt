@@ -190,11 +190,6 @@ card_meets m Delivers b c = card_takes m b c
 card_meets m Damages b c = card_damaged Edc c
 card_meets m Loses b c = record { card = c; block = None }
 
--- Memory ran out during a command. The card does not carry it out, and the previous response is
--- lost.
-abbrev pub forgets : Card → Card
-forgets c = record c { field = []; rest = []; answering = false }
-
 -- the block of a reply
 abbrev pub replies : Reply → Card → Block
 replies reply.Information c = I (other c.next) (more c.rest) c.field

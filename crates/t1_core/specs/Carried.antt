@@ -9,6 +9,7 @@ use Rattle.t1_core.specs.declared.terminal.Phase.{Phase}
 use Rattle.t1_core.specs.declared.terminal.Phase.TheVariants.{Over}
 use Rattle.t1_core.specs.CardSide.{Card, Did, Meaning}
 use Rattle.t1_core.specs.Doing.{Agrees, DoesAll, EndOf, IsKeeping, after, commands_of, most_bytes}
+use Rattle.t1_core.specs.Passing.{AreHeard}
 use Rattle.t1_core.specs.TerminalSide.{Terminal}
 use Rattle.t1_core.specs.World.{World, most_exchanges, next_command, run, start}
 
@@ -66,8 +67,8 @@ with_command past command t = record past {
   answers = answers_in t.phase t.got past.answers;
 }
 
--- The commands of `past` led to both ends. `did` is what the card has carried out, `fates` what the
--- line has done since the reset. Further commands, given at once with these, would lead to the same
+-- The commands of `past` led to both ends. `did` is what the card has carried out, `line` what the
+-- line has done since the reset, `fates` what the ends heard of it. Further commands, given at once with these, would lead to the same
 -- ends with these further commands to send (`leads`).
 pub record HasCarried {C : Type 0} (a : Ghosts C) (past : Past a.State) (now : List Fates)
     (e : EndsOf C) : Type 0 where
@@ -76,8 +77,10 @@ pub record HasCarried {C : Type 0} (a : Ghosts C) (past : Past a.State) (now : L
   pub short : AllByRecursion (λ (d : Did). length d.response < most_bytes) did
   pub sent : List ℕ
   pub keeping : IsKeeping a.LIMIT e.card sent
+  pub line : List Fates
+  pub passed : now ≡ past.passed ++ line
   pub fates : List Fates
-  pub passed : now ≡ past.passed ++ fates
+  pub heard : AreHeard a line fates
   pub sized : 0 < e.terminal.size
   pub leads : (m : Meaning) → Agrees m [] did → (commands : List (List ℕ))
       → run m fates (start past.settings [] (past.commands ++ commands))

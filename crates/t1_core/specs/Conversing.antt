@@ -7,6 +7,7 @@ use Rattle.t1_core.specs.declared.terminal.Fault.{Fault}
 use Rattle.t1_core.specs.CardSide.{Did}
 use Rattle.t1_core.specs.Doing.{DoesAll, commands_of, meaning_of, responses_of}
 use Rattle.t1_core.specs.Mild.{Enough, IsMild}
+use Rattle.t1_core.specs.Passing.{AreHeard}
 use Rattle.t1_core.specs.TerminalSide.{fault_of, has_stopped}
 use Rattle.t1_core.specs.World.{World, IsFrontOf, IsTrue, most_exchanges, run, start}
 
@@ -27,8 +28,11 @@ pub record Conversed {C : Type 0} (a : Ghosts C) (settings : Settings) (first la
     (fault : Option Fault) (passed_before passed_after : List Fates) : Type 0 where
   pub did : List Did
   pub does : DoesAll a.Does first did last
+  pub line : List Fates
+  pub passed : passed_after ≡ passed_before ++ line
+  -- what the ends heard of it: a block whose command the card above refused counts as lost
   pub fates : List Fates
-  pub passed : passed_after ≡ passed_before ++ fates
+  pub heard : AreHeard a line fates
   pub by_blocks : HasEnded (run (meaning_of did) fates (start settings [] commands))
       (commands_of did) answers fault
   -- the card has carried out the first of the commands, in order, each once

@@ -94,9 +94,9 @@ Carries a Holds old new = (sent : List ℕ) → IsKeeping a.LIMIT old sent
     × ((m : Meaning) (ran : List (List ℕ)) → IsOfSome m ran did
     → Holds m (after old ran sent) (after new (ran_with ran did) later))
 
--- the next field of a command, not amid one beyond the limit: memory runs out for nothing else
+-- the last field of a command: the card above can refuse nothing else
 abbrev pub IsDue : {C : Type 0} → Arrival → EndOf C → Type 0
-IsDue (Came (I n more f)) e = (n ≡ e.at.due) × (e.at.rest ≡ []) × (e.over ≡ true → more ≡ false)
+IsDue (Came (I n more f)) e = (n ≡ e.at.due) × (e.at.rest ≡ []) × (more ≡ false)
 IsDue other e = ⊥
 
 -- the end makes this step, and replies
@@ -112,7 +112,11 @@ Goes step old reply new = (new.card ≡ old.card)
     × ((ran : List (List ℕ)) (sent : List ℕ)
     → step (after old ran sent) ≡ turn (after new ran sent) (replies reply new.at))
 
--- memory ran out: the card is unchanged, and `f` changes the end
+-- the card above has refused a command in this state
+abbrev pub HasRefused : {C : Type 0} (a : Ghosts C) → EndOf C → Type 0
+HasRefused a e = (command : List ℕ) × a.Refuses (a.standing e.card) command
+
+-- the command is not carried out: the card is unchanged, and `f` changes the end
 abbrev pub Keeps : {C : Type 0} (a : Ghosts C) → (Card → Card) → EndOf C → EndOf C → Type 0
 Keeps a f old new = (a.standing new.card ≡ a.standing old.card) × (new.at ≡ f old.at)
     × (new.over ≡ old.over)

@@ -1,5 +1,5 @@
 -- A block of the terminal and the card's reply, over the line.
-use Rattle.std.specs.Prelude.{◌≡◌, ℕ, List, Option, Some, None, true}
+use Rattle.std.specs.Prelude.{◌≡◌, ◌⊎◌, ℕ, List, [], ◌∷◌, Option, Some, None, true}
 use Rattle.std.specs.Option.{option_map}
 use Rattle.t1_core.specs.declared.applet.Applet.{Ghosts}
 use Rattle.t1_core.specs.declared.card.Reply.{Reply}
@@ -33,6 +33,18 @@ abbrev pub Passes : {C : Type 0} (a : Ghosts C) → Fates → (old new : Termina
     → (before later : EndOf C) → Type 0
 Passes a fates old new before later =
     Carries a (λ m card card'. PassesWith m fates (sends old) old new card card') before later
+
+-- What the ends hear of an exchange: what the line did with it. Or the line delivered the block of
+-- the terminal, the card above refused the command that it ends, and there is no reply: as if the
+-- block had been lost.
+abbrev pub IsHeard : {C : Type 0} (a : Ghosts C) → (line heard : Fates) → Type 0
+IsHeard a x y = (y ≡ x) ⊎ ((x.down ≡ Delivers) × (y ≡ record x { down = Loses })
+    × (s : a.State) × (command : List ℕ) × a.Refuses s command)
+
+abbrev pub AreHeard : {C : Type 0} (a : Ghosts C) → (line heard : List Fates) → Type 0
+AreHeard a [] [] = Unit {0}
+AreHeard a (x ∷ xs) (y ∷ ys) = IsHeard a x y × AreHeard a xs ys
+AreHeard a xs ys = ⊥
 
 -- ---- the same by bytes
 

@@ -1,5 +1,5 @@
 -- A card's end above which a command may wait for its response.
-use Rattle.std.specs.Prelude.{◌≡◌, ℕ, suc, Bool, true, false, ◌&&◌, List, [], ◌∷◌, ◌++◌, Option, Some, None, is_some, not, if◌then◌else◌}
+use Rattle.std.specs.Prelude.{cond, length, nat_lt, ◌+◌, ◌≡◌, ℕ, suc, Bool, true, false, ◌&&◌, List, [], ◌∷◌, ◌++◌, Option, Some, None, is_some, not, if◌then◌else◌}
 use Rattle.t1_core.specs.declared.applet.Applet.{Ghosts}
 use Rattle.t1_core.specs.declared.block.Control.{Control}
 use Rattle.t1_core.specs.declared.block.Control.TheVariants.{Wtx}
@@ -8,7 +8,7 @@ use Rattle.t1_core.specs.declared.card.Reply.TheVariants as reply
 use Rattle.t1_core.specs.declared.pcb.BlockReason.{BlockReason}
 use Rattle.t1_core.specs.Block.{Block, I, R, Request, Response, Arrival, Came, Bad, answers}
 use Rattle.t1_core.specs.BlockBytes.{arrival_of, block_of, is_whole}
-use Rattle.t1_core.specs.CardSide.{Card, Turn, card_after, card_damaged, card_hears, forgets, takes_waiting}
+use Rattle.t1_core.specs.CardSide.{Card, Turn, card_after, card_damaged, card_hears, takes_waiting}
 use Rattle.t1_core.specs.Doing.{EndOf, Goes, Keeps, Steps, with_end}
 
 -- the end; the block that waits, if any; and the multiple of the S(WTX request) in progress
@@ -21,17 +21,21 @@ pub record PatientOf (C : Type 0) : Type 0 where
 abbrev pub awaits : {C : Type 0} → PatientOf C → Bool
 awaits p = not (is_some p.asked) && is_whole p.kept
 
--- the command that the block that waits ends
-abbrev pub ended_by : Option Block → List ℕ → Option (List ℕ)
-ended_by (Some (I number false field)) collected = Some (collected ++ field)
-ended_by (Some (I number true field)) collected = None
-ended_by (Some (R number reason)) collected = None
-ended_by (Some (Request control)) collected = None
-ended_by (Some (Response control)) collected = None
-ended_by None collected = None
+-- The command that the block that waits ends, if it is within the limit. Then the end has all of
+-- its earlier bytes.
+abbrev pub ended_by : ℕ → Option Block → List ℕ → Option (List ℕ)
+ended_by limit (Some (I number false field)) collected =
+    cond (nat_lt limit (length collected + length field)) None (Some (collected ++ field))
+ended_by limit (Some (I number true field)) collected = None
+ended_by limit (Some (R number reason)) collected = None
+ended_by limit (Some (Request control)) collected = None
+ended_by limit (Some (Response control)) collected = None
+ended_by limit None collected = None
 
-abbrev pub command_in : {C : Type 0} → PatientOf C → Option (List ℕ)
-command_in p = if awaits p then ended_by (block_of p.kept) p.end.at.collected else None
+abbrev pub command_in : {C : Type 0} → (limit : ℕ) → PatientOf C → Option (List ℕ)
+command_in limit p =
+    if awaits p && not p.end.over then ended_by limit (block_of p.kept) p.end.at.collected
+    else None
 
 -- an end with that request in progress
 abbrev pub asking : Option ℕ → Card → Card
@@ -50,7 +54,7 @@ abbrev pub Takes : {C : Type 0} (a : Ghosts C) → List ℕ → PatientOf C → 
 Takes a bytes old (Some reply) new = (new.asked ≡ None) × (new.kept ≡ [])
     × Steps a (λ m c. card_hears m (arrival_of bytes) c) old.end reply new.end
 Takes a bytes old None new = (new.asked ≡ None) × (new.kept ≡ bytes)
-    × Keeps a forgets old.end new.end
+    × Keeps a (λ c. c) old.end new.end
 
 -- whether this is the response to that request
 abbrev pub grants : Control → Arrival → Bool

@@ -14,7 +14,7 @@ pub struct Requests {
 }
 
 /// The card behind its end of the line. The end calls `carry_out` or `too_long` once for each
-/// command, and again after an error.
+/// command, and again after an error if the terminal sends its last block again.
 pub trait Applet {
     ghost use Rattle.std.specs.Prelude.{◌≡◌, ◌<◌, ℕ, List, length, MatchResult};
     ghost use Rattle.t1_core.specs.CardSide.{Did};
@@ -34,6 +34,10 @@ pub trait Applet {
     /// responses and states.
     ghost Does: { State → Did → State → Type 0 };
 
+    /// Which commands the card may refuse in a state, for lack of memory or because the response
+    /// must wait. Then the block that ends the command has no reply.
+    ghost Refuses: { State → List ℕ → Type 0 };
+
     /// Carries out a command, replaces the contents of `response` with its response, and returns
     /// the requests to make before that response.
     ///
@@ -47,7 +51,8 @@ pub trait Applet {
               response = response.new.items;
               asks = asks;
             }) (standing self.new))
-            (λ _. standing self.new ≡ standing self.old) };
+            (λ _. (standing self.new ≡ standing self.old)
+            × Refuses (standing self.old) command.now) };
 
     /// As `carry_out`, with a command that is longer than `LIMIT`.
     ///
@@ -61,5 +66,7 @@ pub trait Applet {
               response = response.new.items;
               asks = asks;
             }) (standing self.new))
-            (λ _. standing self.new ≡ standing self.old) };
+            (λ _. (standing self.new ≡ standing self.old)
+            × ((command : List ℕ) → LIMIT < length command
+            → Refuses (standing self.old) command)) };
 }

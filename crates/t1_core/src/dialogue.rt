@@ -1,12 +1,13 @@
 //! A whole dialogue: a list of commands, over a line.
-ghost use Rattle.std.specs.Prelude.{IfOk, map};
+ghost use Rattle.std.specs.Prelude.{◌≤◌, ℕ, List, None, IfOk, OnErr, length, map, take};
 ghost use Rattle.t1_core.specs.Conversing.{Conversed};
 
 use crate::applet::Applet;
+use crate::card::room_for;
 use crate::ends::Ends;
 use crate::line::Line;
 use crate::settings::Settings;
-use crate::terminal::Fault;
+use crate::terminal::{Fault, TerminalEnd};
 use std::alloc::{AllocError, Global};
 
 /// The result of a dialogue.
@@ -29,7 +30,8 @@ pub struct Conversation<C> {
 /// enough for the settings (`laws::mild_lines_are_survived`) there is no fault.
 ///
 /// # Errors
-/// - `AllocError`: memory ran out; both ends and the card are dropped.
+/// - `AllocError`: memory ran out before the first block, or between two commands. Those before have
+///   been carried out, and have their answers; both ends, the card and the answers are dropped.
 pub fn converse<C: Applet + Drop, L: Line>(
     alloc: Global,
     applet: C,
@@ -37,11 +39,18 @@ pub fn converse<C: Applet + Drop, L: Line>(
     settings: Settings,
     commands: &[Vec<u8>],
 ) -> Result<Conversation<C>, AllocError>
-    ensures { IfOk result (λ r. Conversed C.Applet settings (C.standing applet)
+    ensures talked { IfOk result (λ r. Conversed C.Applet settings (C.standing applet)
         (C.standing r.applet) (map (λ v. v.items) commands.now)
         (map (λ v. v.items) r.answers.items) r.fault (L.passed line.old) (L.passed line.new)) }
+    ensures memory { OnErr result ((count : ℕ) × (count ≤ length commands.now)
+        × (last : C.State) × (answers : List (List ℕ))
+        × Conversed C.Applet settings (C.standing applet) last
+        (map (λ v. v.items) (take count commands.now)) answers None
+        (L.passed line.old) (L.passed line.new)) }
 {
-    let mut ends = Ends::new(alloc, applet, settings);
+    let room = room_for::<C>(alloc)?;
+    let terminal = TerminalEnd::new(alloc, settings)?;
+    let mut ends = Ends::new(terminal, room, applet);
     let mut answers = Vec::new(alloc);
     for command in commands {
         ends.carry(line, command)?;

@@ -1,17 +1,17 @@
 //! Both ends of a line, and commands one after another: each may depend on the answers before it.
-ghost use Rattle.std.specs.Prelude.{◌≡◌, List, true, OnOk};
+ghost use Rattle.std.specs.Prelude.{◌≡◌, ◌≤◌, ◌<◌, [], List, true, OnOk, OnErr, length, vec_capacity};
 ghost use Rattle.t1_core.specs.declared.line.Fates.{Fates};
+ghost use Rattle.t1_core.specs.declared.settings.Settings.{Settings};
 ghost use Rattle.t1_core.specs.Carried.{EndsOf, HasCarried, Past, nothing_yet, with_command};
 ghost use Rattle.t1_core.specs.Conversing.{Conversed};
-ghost use Rattle.t1_core.specs.TerminalSide.{fault_of, has_stopped, is_ready};
+ghost use Rattle.t1_core.specs.TerminalSide.{fault_of, fresh, has_stopped, is_ready};
 
 use crate::applet::Applet;
 use crate::card::BlockCard;
 use crate::line::{Fates, Line};
 use crate::pass::pass;
-use crate::settings::Settings;
 use crate::terminal::{Fault, TerminalEnd};
-use std::alloc::{AllocError, Global};
+use std::alloc::AllocError;
 use std::marker::Model;
 
 /// Both ends of a line. `carry` takes a command to the card and its response back; the next command
@@ -32,24 +32,27 @@ impl<C: Applet> Model for Ends<C> {
 
 impl<C: Applet> Ends<C> {
     /// Makes both ends after a reset. The card above is in the state of `applet`.
-    pub fn new(alloc: Global, applet: C, settings: Settings) -> Ends<C>
-        ensures led { (passed : List Fates) → HasCarried C.Applet
-            (nothing_yet settings (C.standing applet) passed) passed result }
+    /// `terminal` is new, and `room` that of `room_for`.
+    pub fn new(terminal: TerminalEnd, room: Vec<u8>, applet: C) -> Ends<C>
+        requires new { (settings : Settings) × (terminal ≡ fresh settings) }
+        requires room { (room.items ≡ []) × (C.LIMIT ≤ vec_capacity room) }
+        ensures led { (settings : Settings) (passed : List Fates) → terminal ≡ fresh settings
+            → HasCarried C.Applet (nothing_yet settings (C.standing applet) passed) passed result }
         ensures ready { is_ready result.terminal.phase ≡ true }
     {
         Ends {
-            terminal: TerminalEnd::new(alloc, settings),
-            card: BlockCard::new(alloc, applet),
+            terminal,
+            card: BlockCard::new(room, applet),
         }
     }
 
     /// Carries a command to the card over the line, until its response has arrived or the terminal
     /// gives up: `response` and `fault` tell which. `is_ready` must hold. Each call gets the same
-    /// line, which nothing else uses.
+    /// line, which nothing else uses. A block whose command the card above refuses has no reply.
     ///
     /// # Errors
-    /// - `AllocError`: memory ran out; the command may be in progress at either end, and these ends
-    ///   can carry no other.
+    /// - `AllocError`: memory for a command longer than `COMMAND_ROOM` ran out before the first
+    ///   block; nothing has changed.
     pub fn carry<L: Line>(&mut self, line: &mut L, command: &[u8]) -> Result<(), AllocError>
         requires ready { is_ready self.old.terminal.phase ≡ true }
         requires led { (past : Past C.State)
@@ -59,6 +62,9 @@ impl<C: Applet> Ends<C> {
             → HasCarried C.Applet past (L.passed line.old) self.old
             → HasCarried C.Applet (with_command past command.now self.new.terminal)
             (L.passed line.new) self.new) }
+        ensures nothing_sent { OnErr result
+            ((self.new ≡ self.old) × (L.passed line.new ≡ L.passed line.old)) }
+        ensures memory { OnErr result (261 < length command.now) }
         ensures stopped { OnOk result (has_stopped self.new.terminal.phase ≡ true) }
     {
         let Ok(()) = self.terminal.begin(command) else {
@@ -66,7 +72,7 @@ impl<C: Applet> Ends<C> {
         };
         'exchanges: while !self.terminal.has_stopped() {
             let fates = line.next();
-            pass(&mut self.terminal, &mut self.card, fates)?;
+            pass(&mut self.terminal, &mut self.card, fates);
         }
         Ok(())
     }

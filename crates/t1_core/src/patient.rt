@@ -1,5 +1,5 @@
 //! A card's end above which a command may wait for its response.
-ghost use Rattle.std.specs.Prelude.{◌≡◌, ◌≤◌, ◌++◌, [], true, false, length, None, Some, is_some, if◌then◌else◌};
+ghost use Rattle.std.specs.Prelude.{◌≡◌, ◌≤◌, ◌++◌, [], true, false, length, None, Some, is_some, vec_capacity, if◌then◌else◌};
 ghost use Rattle.std.specs.Option.{option_map};
 ghost use Rattle.std.specs.Fn.{FnOnceReturnsAtMut, FnOnceTakesAtMut};
 ghost use Rattle.t1_core.specs.Block.{Came, is_filled, is_size, said};
@@ -16,7 +16,6 @@ use crate::card::{BlockCard, Reply};
 use crate::pcb::BlockReason;
 use crate::receiver::Receiver;
 use crate::spelling::read;
-use std::alloc::Global;
 use std::marker::Model;
 use std::mem::swap;
 
@@ -46,7 +45,8 @@ impl<C: Applet> Model for PatientCard<C> {
 
 impl<C: Applet> PatientCard<C> {
     /// Makes the end after a reset. IFSD is 32 until the terminal asks for another.
-    pub fn new(alloc: Global, applet: C) -> PatientCard<C>
+    pub fn new(room: Vec<u8>, applet: C) -> PatientCard<C>
+        requires { (room.items ≡ []) × (C.LIMIT ≤ vec_capacity room) }
         ensures { result ≡ record {
           end = record { card = applet; at = card_after []; over = false };
           kept = [];
@@ -54,7 +54,7 @@ impl<C: Applet> PatientCard<C> {
         } }
     {
         PatientCard {
-            end: BlockCard::new(alloc, applet),
+            end: BlockCard::new(room, applet),
             kept: Receiver::new(),
             asked: None,
         }
@@ -118,12 +118,12 @@ impl<C: Applet> PatientCard<C> {
     }
 
     /// Returns the command that waits: the bytes of its earlier blocks, and those of the kept one.
-    /// If it is longer than `Applet::LIMIT`, the earlier ones may be missing. `None` if the kept
-    /// block ends no command, or `awaits` does not hold.
+    /// It is the whole command: `again` carries out no other. `None` if it is longer than
+    /// `Applet::LIMIT`, if the kept block ends no command, or if `awaits` does not hold.
     pub fn command(&self) -> Option<(&[u8], &[u8])>
-        ensures { option_map (λ parts. parts.0.now ++ parts.1.now) result ≡ command_in self.now }
+        ensures { option_map (λ parts. parts.0.now ++ parts.1.now) result ≡ command_in C.LIMIT self.now }
     {
-        if !self.awaits() {
+        if !self.awaits() || self.end.is_over() {
             return None;
         }
         match read(self.kept.bytes()) {
@@ -133,7 +133,9 @@ impl<C: Applet> PatientCard<C> {
                     info,
                     ..
                 },
-            ) => Some((self.end.collected(), info)),
+            ) if self.end.collected().len() + info.len() <= C::LIMIT => {
+                Some((self.end.collected(), info))
+            }
             _ => None,
         }
     }

@@ -1,8 +1,8 @@
-use Rattle.std.proofs.Common.{[], ◌+◌, ◌∷◌, ◌++◌, sym, ap, subst, ◌∙◌, map}
+use Rattle.std.proofs.Common.{arith, [], ◌+◌, ◌∷◌, ◌++◌, sym, ap, subst, ◌∙◌, map}
 use Rattle.std.proofs.lemmas.List.{map-append}
 use Rattle.t1_core.specs.Carried.{HasCarried, answers_in}
 use Rattle.t1_core.specs.TerminalSide.{has_stopped}
-use Rattle.t1_core.proofs.Carrying.{first_of, is_over, list_conversed, none_yet, one_more_carried}
+use Rattle.t1_core.proofs.Carrying.{SomeConversed, first_of, is_over, list_conversed, none_conversed, none_yet, one_more_carried, on_err, one_more_conversed, some_conversed}
 use Rattle.t1_core.proofs.dialogue.converse.Goals as goal
 use Rattle.t1_core.proofs.dialogue.converse.Goals.{else-loop-command-test, then-loop-command-test+in_ok-carry+then-not-is_ready}
 
@@ -12,7 +12,8 @@ loop-command-init g c = record {
   carried = subst (λ answers. HasCarried g.C.Applet (first_of g.C.Applet (λ v. v.items)
       c.args.settings (g.C.Applet.standing c.args.applet) (g.L.Line.passed c.args.line.now)
       c.args.commands.now 0 answers) (g.L.Line.passed c.args.line.now) c.new-ends.result)
-      (sym c.new-answers.ensures.items) (c.new-ends.ensures.led (g.L.Line.passed c.args.line.now));
+      (sym c.new-answers.ensures.items) (c.new-ends.ensures.led c.args.settings (g.L.Line.passed c.args.line.now)
+      c.in_ok-terminal.ensures);
 }
 
 pub carry-requires-clause-led : goal.carry-requires-clause-led
@@ -41,8 +42,8 @@ loop-command-preserved g c =
           ∙ map-append (λ v. v.items) answers (c.extend_from_slice.new.self ∷ [])));
     }
 
-pub returns : goal.returns
-returns g c =
+pub returns-clause-talked : goal.returns-clause-talked
+returns-clause-talked g c =
     let first = g.C.Applet.standing c.args.applet in
     let before = g.L.Line.passed c.args.line.now in
     let vs = c.args.commands.now in
@@ -70,3 +71,46 @@ returns g c =
           (none_yet t.phase t.got (map (λ v. v.items) answers) not_ready))
           w.in_ok-carry.ensures.stopped (λ ready. absurd (let no = sym ready ∙ not_ready in cc)))
     ]
+
+pub returns-in_err-room-clause-memory : goal.returns-in_err-room-clause-memory
+returns-in_err-room-clause-memory g c =
+    on_err _ (none_conversed g.C.Applet (λ v. v.items) c.args.settings c.args.applet
+    (g.L.Line.passed c.args.line.now) c.args.commands.now)
+
+pub returns-in_err-terminal-clause-memory : goal.returns-in_err-terminal-clause-memory
+returns-in_err-terminal-clause-memory g c =
+    on_err _ (none_conversed g.C.Applet (λ v. v.items) c.args.settings c.args.applet
+    (g.L.Line.passed c.args.line.now) c.args.commands.now)
+
+pub returns-in_err-carry-clause-memory : goal.returns-in_err-carry-clause-memory
+returns-in_err-carry-clause-memory g c =
+    let told = c.loop-command.invariant in
+    let lt = c.loop-command-test.true in
+    let at = g.L.Line.passed c.args.line.now in
+    let first = g.C.Applet.standing c.args.applet in
+    on_err _ (subst (λ now. SomeConversed g.C.Applet (λ v. v.items) c.args.settings first at
+    c.args.commands.now now) (sym c.in_err-carry.ensures.nothing_sent.1)
+    (some_conversed g.C.Applet (λ v. v.items) c.args.settings first at
+    c.args.commands.now c.loop-command.command-index c.loop-command.answers.items
+    (g.L.Line.passed c.loop-command.line) c.loop-command.ends told.carried
+    (omega (arith, lt)) told.ready))
+
+pub returns-in_err-extend_from_slice-clause-memory : goal.returns-in_err-extend_from_slice-clause-memory
+returns-in_err-extend_from_slice-clause-memory g c =
+    let ready = sym c.is_ready.ensures ∙ c.if-not-is_ready.false in
+    on_err _ (one_more_conversed g.C.Applet (λ v. v.items) c.args.settings
+    (g.C.Applet.standing c.args.applet) (g.L.Line.passed c.args.line.now)
+    c.args.commands.now c.loop-command.command-index c.command-item.result
+    c.loop-command.answers.items c.deref.result.now (g.L.Line.passed c.carry.new.line)
+    c.carry.new.self (c.in_ok-carry.ensures.led _ c.loop-command.invariant.carried)
+    c.loop-command-test.true c.command-item.is c.deref.ensures.value ready)
+
+pub returns-in_err-push-clause-memory : goal.returns-in_err-push-clause-memory
+returns-in_err-push-clause-memory g c =
+    let ready = sym c.is_ready.ensures ∙ c.if-not-is_ready.false in
+    on_err _ (one_more_conversed g.C.Applet (λ v. v.items) c.args.settings
+    (g.C.Applet.standing c.args.applet) (g.L.Line.passed c.args.line.now)
+    c.args.commands.now c.loop-command.command-index c.command-item.result
+    c.loop-command.answers.items c.deref.result.now (g.L.Line.passed c.carry.new.line)
+    c.carry.new.self (c.in_ok-carry.ensures.led _ c.loop-command.invariant.carried)
+    c.loop-command-test.true c.command-item.is c.deref.ensures.value ready)

@@ -19,19 +19,19 @@ exchanges-smaller g c =
     let moving = sym c.has_stopped.ensures ∙ c.exchanges-test.true in
     let h = c.exchanges.invariant c.requires.led.0 c.requires.led.1 in
     fewer_left e.terminal c.pass.new.terminal moving
-    (received g.C.Applet c.next-fates.result (record { terminal = e.terminal; card = e.card })
+    (received g.C.Applet c.pass.result (record { terminal = e.terminal; card = e.card })
     (record { terminal = c.pass.new.terminal; card = c.pass.new.card }) h.sent h.keeping moving
     h.sized
-    c.in_ok-pass.ensures).1
+    c.pass.ensures.passes).1
 
 pub exchanges-preserved : goal.exchanges-preserved
 exchanges-preserved g c = λ past h.
     let e = c.exchanges.self-inside in
-    carried_next g.C.Applet past c.args.command.now _ _ c.next-fates.result
+    carried_next g.C.Applet past c.args.command.now _ _ c.next-fates.result c.pass.result
     (record { terminal = e.terminal; card = e.card })
     (record { terminal = c.pass.new.terminal; card = c.pass.new.card })
     (c.exchanges.invariant past h) (sym c.has_stopped.ensures ∙ c.exchanges-test.true)
-    c.next-fates.ensures c.in_ok-pass.ensures
+    c.next-fates.ensures c.pass.ensures.heard c.pass.ensures.passes
 
 pub returns-clause-led : goal.returns-clause-led
 returns-clause-led g c = c.exchanges.invariant

@@ -5,8 +5,8 @@ use Rattle.t1_core.proofs.Carrying.{carried_at_first}
 use Rattle.t1_core.proofs.ends.Ends.new.Goals as goal
 
 pub returns-clause-led : goal.returns-clause-led
-returns-clause-led g c passed =
-    carried_at_first g.C.Applet c.args.settings c.args.applet passed _
-    (ap (λ (t : Terminal). record { terminal = t; card = c.new-2.result }) c.new.ensures
-    ∙ ap (λ (e : EndOf g.row.C.Denot). record { terminal = fresh c.args.settings; card = e })
-    c.new-2.ensures)
+returns-clause-led g c settings passed is =
+    carried_at_first g.C.Applet settings c.args.applet passed _
+    (ap (λ (t : Terminal). record { terminal = t; card = c.new.result }) is
+    ∙ ap (λ (e : EndOf g.row.C.Denot). record { terminal = fresh settings; card = e })
+    c.new.ensures)

@@ -16,7 +16,7 @@ use Rattle.t1_core.specs.CardSide.{Meaning}
 use Rattle.t1_core.specs.TerminalSide.{has_stopped}
 use Rattle.t1_core.specs.Mild.{bad_of, bad, Stays, IsMild, Enough, IsSize, count_of}
 use Rattle.t1_core.specs.World.{World, run, start}
-use Rattle.t1_core.proofs.Places.{Kept, Spot, Place, Going, Opens, Behind, Taken, Waits, Grows, Between, Sent, Given_up, Finished, asking, response_in, uses, proceeds, starts, out_at, world_of, runs, heard, misses, comes, comes_next, numbered, is_long, IsHeard, is_heard, grows, garbled, garbled_by, step, is_step}
+use Rattle.t1_core.proofs.Places.{Kept, Spot, Place, Going, Opens, Behind, Taken, Waits, Grows, Between, Sent, Given_up, Finished, asking, response_in, uses, cut_again, proceeds, starts, out_at, world_of, runs, heard, misses, comes, comes_next, numbered, is_long, IsHeard, is_heard, grows, garbled, garbled_by, step, is_step}
 use Rattle.t1_core.proofs.Holding.{first, first_is, moves}
 use Rattle.t1_core.proofs.Bits.{other_is_not}
 
@@ -187,6 +187,12 @@ module _ (m : Meaning) (before : List (List ℕ)) (f : ℕ) where
         (subst (λ r. length (got ++ r) ≤ k.settings.limit)
         (sym (take-append-drop k.ifsd (b ∷ bytes))) h.0.fits),
     tt,
+  )
+  heard_calm k (Sent first got rest) left tries extensions h = (
+    quiet tries (2 * left + 0) _ h.0 h.0.tries_left
+        (subst (λ r. length (got ++ r) ≤ k.settings.limit) (sym (cut_again k.ifsd k.last rest))
+        h.0.fits),
+    h.1,
   )
   heard_calm k _ left tries extensions h = h
 

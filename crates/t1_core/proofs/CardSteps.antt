@@ -119,6 +119,10 @@ pub on_ok : {X E : Type 0} {P Q : X → Type 0} → ((x : X) → P x → Q x) �
 on_ok f (Ok x) p = f x p
 on_ok f (Err e) p = p
 
+pub on_err : {X E : Type 0} {P : Type 0} (r : Result X E) → P → OnErr r P
+on_err (Ok x) p = tt
+on_err (Err e) p = p
+
 -- `old` takes the field `f`
 module _ {C : Type 0} (a : Ghosts C) (old new : EndOf C) (f : List ℕ) where
   -- the bytes of the command are too many from now on, and the response is dropped

@@ -1,6 +1,5 @@
 -- Commands one after another; each begins after the answer to the previous one.
 use Rattle.std.proofs.Common.{◌≡◌, refl, sym, ap, subst, ◌∙◌, ℕ, ◌+◌, ◌<◌, ◌≤◌, Bool, true, false, List, [], ◌∷◌, ◌++◌, length, map, take, drop, get_or, Option, Some, None, append_assoc, append-nil, length-append, arith, inl, inr}
-use Rattle.std.specs.Prelude.{Result, Ok, Err, OnErr}
 use Rattle.std.proofs.lemmas.Bool.{cases_lt}
 use Rattle.std.proofs.lemmas.List.{length-map, map-append, take-append-drop, take_more}
 use Rattle.std.proofs.Math.ListN.{drop_of_length-le}
@@ -27,10 +26,6 @@ use Rattle.t1_core.proofs.Endless.{Takes, takes_spends}
 use Rattle.t1_core.proofs.Holding.{at_most_once}
 use Rattle.t1_core.proofs.Logs.{before_it, commands_with, does_with, log_with, own_meaning, responses_are, short_with}
 use Rattle.t1_core.proofs.Measure.{stops}
-
-pub on_err : {X E : Type 0} {P : Type 0} (r : Result X E) → P → OnErr r P
-on_err (Ok x) p = tt
-on_err (Err e) p = p
 
 -- ---- phases
 
@@ -142,6 +137,17 @@ module _ {C : Type 0} (a : Ghosts C) where
   one_more_heard (u ∷ us) (v ∷ vs) x y (this, all) one =
       (this, one_more_heard us vs x y all one)
   one_more_heard _ _ x y all one = absurd all
+
+  pub heard_as_it_is : (line heard : List Fates)
+      → ((s : a.State) (command : List ℕ) → a.Refuses s command → ⊥)
+      → AreHeard a line heard → heard ≡ line
+  heard_as_it_is [] [] never all = refl
+  heard_as_it_is (x ∷ xs) (y ∷ ys) never (inl is, all) =
+      ap (λ z. z ∷ ys) is ∙ ap (λ zs. x ∷ zs) (heard_as_it_is xs ys never all)
+  heard_as_it_is (x ∷ xs) (y ∷ ys) never (inr (down, is, s, command, refused), all) =
+      absurd (never s command refused)
+  heard_as_it_is [] (y ∷ ys) never all = absurd all
+  heard_as_it_is (x ∷ xs) [] never all = absurd all
 
   -- ---- one step of the history
 

@@ -213,24 +213,25 @@ module _ (m : Meaning) (before commands : List (List ℕ)) where
       (sym (append-nil t.given) ∙ h.told)
       ∙ sym (turns_last m.does before k.done (collected ++ k.field)))
 
-  takes : (k : Kept) (s : Spot) (at : End) (r : Reading) (t : Story) → Passing k s at r t
-      → Received (heard m before k s).0 (heard m before k s).1 at r t
-  takes k (Behind false collected [] answering) at r t h =
+  takes : (k : Kept) (s : Spot) (at : End) (r : Reading) (t : Story) → Holds m before commands k s
+      → Passing k s at r t → Received (heard m before k s).0 (heard m before k s).1 at r t
+  takes k (Behind false collected [] answering) at r t holds h =
       let done : List (List ℕ) = k.done ++ (collected ++ k.field) ∷ [] in
       let now = runs_at k collected r t h in
       starts_by (λ s. Received (runs m before k done) s at r t) (drop k.ifsd (m.does (before ++
       done))) (m.asks (before ++ done)).extensions (m.asks (before ++ done)).size (λ n size. now)
       (λ size. now) (inl now)
-  takes k (Behind false collected (b ∷ bytes) answering) at r t h = more_follows r t h
-  takes k (Waits rest n size true) at r t h =
+  takes k (Behind false collected (b ∷ bytes) answering) at r t holds h = more_follows r t h
+  takes k (Waits rest n size true) at r t holds h =
       starts_by (λ s. Received k s at r t) rest n size (λ n size. h) (λ size. h) (inl h)
-  takes k (Grows rest size true) at r t h = inl h
-  takes k (Between got b bytes) at r t h =
+  takes k (Grows rest size true) at r t holds h = inl h
+  takes k (Between got b bytes) at r t holds h =
       inl (subst (λ resp. Level Card k.due k.number ((Card, got ++ resp) ∷ []) (Turns k.done) got r
       t)
       (sym (take-append-drop k.ifsd (b ∷ bytes))) h)
-  takes k (Sent first got rest) at r t h = inr h
-  takes k _ at r t h = h
+  takes k (Sent first got rest) at r t holds h =
+      rw (take_all k.ifsd k.last holds.4, drop_all k.ifsd k.last holds.4) (inr h)
+  takes k _ at r t holds h = h
 
   -- ---- the claim
 
@@ -647,7 +648,7 @@ module _ (m : Meaning) (before commands : List (List ℕ)) where
       (Some (reply_of m before reply.0 (heard m before k s).0 (heard m before k s).1)))
       (λ now told passing. answered at up reply.0 (out_at k s why) (heard m before k s).0
       (heard m before k s).1 tries extensions now told (is_heard m before k s)
-      (heard_holds m before commands k s holds) (passing.0, takes k s at _ told passing.1)) r t
+      (heard_holds m before commands k s holds) (passing.0, takes k s at _ told holds passing.1)) r t
       (sends_one k s at why r t h))
 
   -- the terminal's block was heard, and has not arrived

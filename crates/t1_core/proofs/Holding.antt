@@ -15,7 +15,7 @@ use Rattle.t1_core.specs.Block.{is_size, other}
 use Rattle.t1_core.specs.CardSide.{Card, Meaning, first_ifsd, card_after}
 use Rattle.t1_core.specs.TerminalSide.{Terminal, has_stopped, outcome_with, outcome_of, fresh}
 use Rattle.t1_core.specs.World.{World, responses, IsRight, IsTrue, IsAtMostOnce, next_command, run, start}
-use Rattle.t1_core.proofs.Places.{Kept, Spot, Place, Going, Opens, Behind, Taken, Waits, Grows, Between, Sent, Given_up, Finished, asking, terminal_in, terminal_at, card_at, response_in, uses, proceeds, starts, out_at, with_phase, world, world_at, world_of, runs, heard, misses, comes, comes_next, numbered, is_long, IsHeard, is_heard, grows, garbled_by, shorter, and_rest, begins, step, is_step}
+use Rattle.t1_core.proofs.Places.{Kept, Spot, Place, Going, Opens, Behind, Taken, Waits, Grows, Between, Sent, Given_up, Finished, asking, terminal_in, terminal_at, card_at, response_in, uses, cut_again, proceeds, starts, out_at, with_phase, world, world_at, world_of, runs, heard, misses, comes, comes_next, numbered, is_long, IsHeard, is_heard, grows, garbled_by, shorter, and_rest, begins, step, is_step}
 
 pub moves : (s : Spot) → has_stopped (terminal_in s).3 ≡ false
 moves (Sent true got rest) = refl
@@ -48,9 +48,16 @@ module _ (m : Meaning) (before commands : List (List ℕ)) where
   HasSize k (Grows rest size true) = k.size ≡ size
   HasSize k _ = Unit {0}
 
+  -- A field of the response has at most IFSD bytes.
+  abbrev pub IsCut : Kept → Spot → Type 0
+  IsCut k (Waits rest n size granted) = length k.last ≤ k.ifsd
+  IsCut k (Grows rest size granted) = length k.last ≤ k.ifsd
+  IsCut k (Sent first got rest) = length k.last ≤ k.ifsd
+  IsCut k _ = Unit {0}
+
   abbrev pub Holds : Kept → Spot → Type 0
   Holds k s = AddsUp k.done k.todo k.answers (sending k s) (responding k s) × (1 ≤ k.size)
-      × (first_ifsd ≤ k.ifsd) × HasSize k s
+      × (first_ifsd ≤ k.ifsd) × HasSize k s × IsCut k s
 
   abbrev pub HoldsAt : Place → Type 0
   HoldsAt (Going k s why tries extensions) = Holds k s
@@ -127,15 +134,20 @@ module _ (m : Meaning) (before commands : List (List ℕ)) where
       gives_up cause k s (terminal_at out k s tries extensions) (card_at m before k s) e refl refl
   uses_hold cause (suc n) out k s tries extensions again e h = h n
 
+  few_taken : (size : ℕ) (bytes : List ℕ) → length (take size bytes) ≤ size
+  few_taken zero bytes = omega arith
+  few_taken (suc n) [] = omega arith
+  few_taken (suc n) (b ∷ bytes) = let le = few_taken n bytes in omega (arith, le)
+
   starts_hold : (k : Kept) (rest : List ℕ) (n : ℕ) (size : Option ℕ)
       → AddsUp k.done k.todo k.answers [] ((k.last ++ rest) ∷ []) → 1 ≤ k.size
-      → first_ifsd ≤ k.ifsd → Holds k (starts rest n size)
-  starts_hold k rest zero (Some size) h some ifsd = (h, some, ifsd, tt)
-  starts_hold k rest _ _ h some ifsd = (h, some, ifsd, tt)
+      → first_ifsd ≤ k.ifsd → length k.last ≤ k.ifsd → Holds k (starts rest n size)
+  starts_hold k rest zero (Some size) h some ifsd cut = (h, some, ifsd, tt, cut)
+  starts_hold k rest _ _ h some ifsd cut = (h, some, ifsd, tt, cut)
 
   pub heard_holds : (k : Kept) (s : Spot) → Holds k s
       → Holds (heard m before k s).0 (heard m before k s).1
-  heard_holds k (Opens rest asks) h = (h.0, h.1, omega arith, tt)
+  heard_holds k (Opens rest asks) h = (h.0, h.1, omega arith, tt, tt)
   heard_holds k (Behind false collected [] answering) h =
       let done : List (List ℕ) = k.done ++ (collected ++ k.field) ∷ [] in
       starts_hold (runs m before k done) (drop k.ifsd (m.does (before ++ done)))
@@ -149,7 +161,7 @@ module _ (m : Meaning) (before commands : List (List ℕ)) where
             ∙ ap (λ a. a ++ m.does (before ++ done) ∷ [])
             (sym (append-nil k.answers) ∙ h.0.answers_are)
             ∙ sym (responses_last m.does before k.done (collected ++ k.field));
-      }) h.1 h.2
+      }) h.1 h.2 (few_taken k.ifsd (m.does (before ++ done)))
   heard_holds k (Behind false collected (b ∷ bytes) answering) h = (
     record {
       whole = ap (λ c. k.done ++ c ∷ k.todo) (append_assoc collected k.field (b ∷ bytes))
@@ -159,9 +171,10 @@ module _ (m : Meaning) (before commands : List (List ℕ)) where
     h.1,
     h.2,
     tt,
+    tt,
   )
-  heard_holds k (Waits rest n size true) h = starts_hold k rest n size h.0 h.1 h.2
-  heard_holds k (Grows rest size true) h = (h.0, h.1, h.2, tt)
+  heard_holds k (Waits rest n size true) h = starts_hold k rest n size h.0 h.1 h.2 h.4
+  heard_holds k (Grows rest size true) h = (h.0, h.1, h.2, tt, h.4)
   heard_holds k (Between got b bytes) h = (
     record {
       whole = h.0.whole;
@@ -171,17 +184,24 @@ module _ (m : Meaning) (before commands : List (List ℕ)) where
     h.1,
     h.2,
     tt,
+    few_taken k.ifsd (b ∷ bytes),
+  )
+  heard_holds k (Sent first got rest) h = (
+    record {
+      whole = h.0.whole;
+      answers_are = ap (λ r. k.answers ++ (got ++ r) ∷ []) (cut_again k.ifsd k.last rest)
+          ∙ h.0.answers_are;
+    },
+    h.1,
+    h.2,
+    tt,
+    few_taken k.ifsd k.last,
   )
   heard_holds k _ h = h
 
   asking_holds : (k : Kept) (s : Spot) → Holds k s → Holds k (asking s)
-  asking_holds k (Grows rest size granted) h = (h.0, h.1, h.2, tt)
+  asking_holds k (Grows rest size granted) h = (h.0, h.1, h.2, tt, h.4)
   asking_holds k _ h = h
-
-  few_taken : (size : ℕ) (bytes : List ℕ) → length (take size bytes) ≤ size
-  few_taken zero bytes = omega arith
-  few_taken (suc n) [] = omega arith
-  few_taken (suc n) (b ∷ bytes) = let le = few_taken n bytes in omega (arith, le)
 
   -- the terminal begins to send a command
   begins_hold : (k : Kept) (rest : List ℕ) (asks : Bool) (extensions : ℕ)
@@ -195,6 +215,7 @@ module _ (m : Meaning) (before commands : List (List ℕ)) where
     h.1,
     h.2,
     few_taken k.size (k.field ++ rest),
+    tt,
   )
 
   misses_hold : (why : BlockReason) (out : Out) (k : Kept) (s : Spot) (tries extensions : ℕ)
@@ -215,7 +236,7 @@ module _ (m : Meaning) (before commands : List (List ℕ)) where
       → HoldsAt (grows m before v out k rest size granted tries extensions)
   grows_hold true out k rest size granted tries extensions e h =
       uses_hold ExtensionsSpent extensions out (record k { size = size }) (Grows rest size granted)
-      tries extensions _ h.0 (λ i. (h.0, some_size size e, h.2, refl))
+      tries extensions _ h.0 (λ i. (h.0, some_size size e, h.2, refl, h.4))
   grows_hold false out k rest size granted tries extensions e h =
       misses_hold Other out k (Grows rest size granted) tries extensions h
 
@@ -241,6 +262,7 @@ module _ (m : Meaning) (before commands : List (List ℕ)) where
     some,
     ifsd,
     few_taken k.size c,
+    tt,
   )
 
   next_hold : (v : Bool) (out : Out) (k : Kept) (got rest : List ℕ) (tries extensions : ℕ)
@@ -267,6 +289,7 @@ module _ (m : Meaning) (before commands : List (List ℕ)) where
     h.1,
     h.2,
     tt,
+    tt,
   )
 
   comes_hold : (out : Out) (k : Kept) (s : Spot) (tries extensions : ℕ) → IsHeard k s
@@ -283,7 +306,7 @@ module _ (m : Meaning) (before commands : List (List ℕ)) where
       } in
       uses_hold TriesSpent tries out (shorter k)
       (Behind asks collected (and_rest k rest) answering) tries extensions _ now
-      (λ i. (now, h.1, h.2, few_taken k.size k.field))
+      (λ i. (now, h.1, h.2, few_taken k.size k.field, tt))
   comes_hold out k (Taken collected b bytes) tries extensions a h = (
     record {
       whole = ap (λ c. k.done ++ (collected ++ c) ∷ k.todo) (take-append-drop k.size (b ∷ bytes))
@@ -293,6 +316,7 @@ module _ (m : Meaning) (before commands : List (List ℕ)) where
     h.1,
     h.2,
     few_taken k.size (b ∷ bytes),
+    tt,
   )
   comes_hold out k (Waits rest n size granted) tries extensions a h =
       uses_hold ExtensionsSpent extensions out k (Waits rest n size granted) tries extensions _ h.0
@@ -392,6 +416,7 @@ first_holds m before settings (c ∷ cs) = (
   },
   (let some = settings.inside.0 in omega (arith, some)),
   omega arith,
+  tt,
   tt,
 )
 

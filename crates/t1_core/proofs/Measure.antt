@@ -239,6 +239,9 @@ module _ (m : Meaning) (before commands : List (List ℕ)) where
       less_weight k (behind k k.size (response k (drop k.ifsd (b ∷ bytes))))
       (behind k k.size (more_blocks k.ifsd (length (b ∷ bytes)))) tries extensions
       (le_plus _ _ _ (drop_less k.ifsd (b ∷ bytes) (omega (arith, e))))
+  heard_le k (Sent first got rest) tries extensions h =
+      as_le _ _ (ap (λ r. weight k (behind k k.size (response k r)) tries extensions)
+      (ap (λ x. x.1) (stays_cut k.ifsd k.last rest h.4)))
   heard_le k _ tries extensions h = as_le _ _ refl
 
   -- the next command, after an answer

@@ -1,6 +1,7 @@
 -- The places of both ends between two exchanges, and the step of an exchange from each.
 use Rattle.std.proofs.Common.{◌≡◌, refl, sym, ap, ◌∙◌, ℕ, zero, suc, Bool, true, false, List, [], ◌∷◌, ◌++◌, length, ◌+◌, nat_lt, take, drop, Option, Some, None, append_assoc, cond}
 use Rattle.std.proofs.lemmas.Bool.{eq-eqb}
+use Rattle.std.proofs.lemmas.List.{take-append-drop}
 use Rattle.t1_core.specs.declared.applet.Requests.{Requests}
 use Rattle.t1_core.specs.declared.block.Control.TheVariants.{Ifs, Wtx}
 use Rattle.t1_core.specs.declared.line.Fate.{Fate}
@@ -152,6 +153,13 @@ shorter k = record k { field = take k.size k.field }
 abbrev pub and_rest : Kept → List ℕ → List ℕ
 and_rest k rest = drop k.size k.field ++ rest
 
+-- an end cuts a field again: both parts and the rest are the same bytes
+pub cut_again : (size : ℕ) (field rest : List ℕ)
+    → take size field ++ (drop size field ++ rest) ≡ field ++ rest
+cut_again size field rest =
+    sym (append_assoc (take size field) (drop size field) rest)
+    ∙ ap (λ bytes. bytes ++ rest) (take-append-drop size field)
+
 -- the terminal begins to send a command, whose first field it cuts
 abbrev pub begins : Kept → (rest : List ℕ) → (extensions : ℕ) → Place
 begins k rest extensions =
@@ -263,6 +271,8 @@ module _ (m : Meaning) (before : List (List ℕ)) where
   heard k (Grows rest size true) = (k, Sent true [] rest)
   heard k (Between got b bytes) =
       (record k { last = take k.ifsd (b ∷ bytes) }, Sent false got (drop k.ifsd (b ∷ bytes)))
+  heard k (Sent first got rest) =
+      (record k { last = take k.ifsd k.last }, Sent first got (drop k.ifsd k.last ++ rest))
   heard k s = (k, s)
 
   pub is_heard : (k : Kept) (s : Spot) → IsHeard (heard k s).0 (heard k s).1

@@ -130,9 +130,16 @@ goes_on (b ∷ bytes) c =
     let field : List ℕ = take c.size (b ∷ bytes) in
     turn (record c { field = field; rest = rest; next = other c.next }) (I c.next (more rest) field)
 
+-- A field that is longer than the IFSD in force is cut again: the rest of it follows in a field of
+-- its own (profile).
+abbrev pub shortened : Card → Card
+shortened c =
+    record c { field = take c.size c.field; rest = drop c.size c.field ++ c.rest }
+
 -- R asks for the newest I-block again, if a response is in progress
 abbrev pub repeats : Bool → Card → Turn
-repeats true c = turn c (I (other c.next) (more c.rest) c.field)
+repeats true c =
+    let now : Card = shortened c in turn now (I (other now.next) (more now.rest) now.field)
 repeats false c = asks_for Other c
 
 -- a request of the terminal (rules of S-blocks)

@@ -1,8 +1,9 @@
 -- What a card carries out. The card may choose, for instance `6581` for a put, so a command is a
 -- relation between two states. A meaning agrees if it makes the same choices.
-use Rattle.std.specs.Prelude.{◌≡◌, ◌<◌, ◌≤◌, ◌^◌, Bool, true, false, List, ℕ, [], ◌∷◌, ◌++◌, length, map, Option, Some, None}
+use Rattle.std.specs.Prelude.{◌≡◌, ◌<◌, ◌≤◌, ◌^◌, Bool, true, false, List, ℕ, [], ◌∷◌, ◌++◌, length, map, vec_capacity, Option, Some, None}
 use Rattle.t1_core.specs.declared.applet.Applet.{Ghosts}
 use Rattle.t1_core.specs.declared.card.Reply.{Reply}
+use Rattle.t1_core.specs.declared.card.Rooms.{Rooms}
 use Rattle.t1_core.specs.Block.{Arrival, Came, I}
 use Rattle.t1_core.specs.CardSide.{Card, Did, Meaning, Turn, turn, no_requests, replies}
 
@@ -65,6 +66,11 @@ IsKeeping limit e sent = Keeping limit e.over e.at.collected sent
 
 abbrev pub with_end : {C : Type 0} → (Card → Card) → EndOf C → EndOf C
 with_end f e = record e { at = f e.at }
+
+-- empty rooms for a command of `limit` bytes, and for the response of a short command
+abbrev pub AreRooms : (limit : ℕ) → Rooms → Type 0
+AreRooms limit rooms = (rooms.command.items ≡ []) × (limit ≤ vec_capacity rooms.command)
+    × (rooms.response.items ≡ []) × (258 ≤ vec_capacity rooms.response)
 
 -- no response has more bytes than memory
 abbrev pub most_bytes : ℕ

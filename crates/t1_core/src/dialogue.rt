@@ -3,7 +3,7 @@ ghost use Rattle.std.specs.Prelude.{◌≤◌, ℕ, List, None, IfOk, OnErr, len
 ghost use Rattle.t1_core.specs.Conversing.{Conversed};
 
 use crate::applet::Applet;
-use crate::card::room_for;
+use crate::card::rooms_for;
 use crate::ends::Ends;
 use crate::line::Line;
 use crate::settings::Settings;
@@ -48,9 +48,9 @@ pub fn converse<C: Applet + Drop, L: Line>(
         (map (λ v. v.items) (take count commands.now)) answers None
         (L.passed line.old) (L.passed line.new)) }
 {
-    let room = room_for::<C>(alloc)?;
+    let rooms = rooms_for::<C>(alloc)?;
     let terminal = TerminalEnd::new(alloc, settings)?;
-    let mut ends = Ends::new(terminal, room, applet);
+    let mut ends = Ends::new(terminal, rooms, applet);
     let mut answers = Vec::new(alloc);
     for command in commands {
         ends.carry(line, command)?;

@@ -1,13 +1,14 @@
 //! Both ends of a line, and commands one after another: each may depend on the answers before it.
-ghost use Rattle.std.specs.Prelude.{◌≡◌, ◌≤◌, ◌<◌, [], List, true, OnOk, OnErr, length, vec_capacity};
+ghost use Rattle.std.specs.Prelude.{◌≡◌, ◌<◌, List, true, OnOk, OnErr, length};
 ghost use Rattle.t1_core.specs.declared.line.Fates.{Fates};
 ghost use Rattle.t1_core.specs.declared.settings.Settings.{Settings};
 ghost use Rattle.t1_core.specs.Carried.{EndsOf, HasCarried, Past, nothing_yet, with_command};
 ghost use Rattle.t1_core.specs.Conversing.{Conversed};
+ghost use Rattle.t1_core.specs.Doing.{AreRooms};
 ghost use Rattle.t1_core.specs.TerminalSide.{fault_of, fresh, has_stopped, is_ready};
 
 use crate::applet::Applet;
-use crate::card::BlockCard;
+use crate::card::{BlockCard, Rooms};
 use crate::line::{Fates, Line};
 use crate::pass::pass;
 use crate::terminal::{Fault, TerminalEnd};
@@ -31,18 +32,18 @@ impl<C: Applet> Model for Ends<C> {
 }
 
 impl<C: Applet> Ends<C> {
-    /// Makes both ends after a reset. The card above is in the state of `applet`.
-    /// `terminal` is new, and `room` that of `room_for`.
-    pub fn new(terminal: TerminalEnd, room: Vec<u8>, applet: C) -> Ends<C>
+    /// Makes both ends after a reset. `terminal` is new, and `rooms` those of `rooms_for`. The card
+    /// above is in the state of `applet`.
+    pub fn new(terminal: TerminalEnd, rooms: Rooms, applet: C) -> Ends<C>
         requires new { (settings : Settings) × (terminal ≡ fresh settings) }
-        requires room { (room.items ≡ []) × (C.LIMIT ≤ vec_capacity room) }
+        requires rooms { AreRooms C.LIMIT rooms }
         ensures led { (settings : Settings) (passed : List Fates) → terminal ≡ fresh settings
             → HasCarried C.Applet (nothing_yet settings (C.standing applet) passed) passed result }
         ensures ready { is_ready result.terminal.phase ≡ true }
     {
         Ends {
             terminal,
-            card: BlockCard::new(room, applet),
+            card: BlockCard::new(rooms, applet),
         }
     }
 

@@ -1,18 +1,18 @@
 //! A card's end above which a command may wait for its response.
-ghost use Rattle.std.specs.Prelude.{◌≡◌, ◌≤◌, ◌++◌, [], true, false, length, None, Some, is_some, vec_capacity, if◌then◌else◌};
+ghost use Rattle.std.specs.Prelude.{◌≡◌, ◌≤◌, ◌++◌, [], true, false, length, None, Some, is_some, if◌then◌else◌};
 ghost use Rattle.std.specs.Option.{option_map};
 ghost use Rattle.std.specs.Fn.{FnOnceReturnsAtMut, FnOnceTakesAtMut};
 ghost use Rattle.t1_core.specs.Block.{Came, is_filled, is_size, said};
 ghost use Rattle.t1_core.specs.BlockBytes.{arrival_of, info_of};
 ghost use Rattle.t1_core.specs.CardSide.{card_after, replies, serves};
-ghost use Rattle.t1_core.specs.Doing.{Goes, IsDue};
+ghost use Rattle.t1_core.specs.Doing.{AreRooms, Goes, IsDue};
 ghost use Rattle.t1_core.specs.Patience.{Asks, Hears, Misses, Takes, TakesAsking, awaits, command_in, seen};
 ghost use Rattle.t1_core.specs.declared.block.Control.TheVariants.{Abort, Ifs, Resynch};
 ghost use Rattle.t1_core.specs.declared.pcb.BlockReason.TheVariants.{Edc, Other};
 
 use crate::applet::Applet;
 use crate::block::{Block, Control};
-use crate::card::{BlockCard, Reply};
+use crate::card::{BlockCard, Reply, Rooms};
 use crate::pcb::BlockReason;
 use crate::receiver::Receiver;
 use crate::spelling::read;
@@ -44,9 +44,10 @@ impl<C: Applet> Model for PatientCard<C> {
 }
 
 impl<C: Applet> PatientCard<C> {
-    /// Makes the end after a reset. IFSD is 32 until the terminal asks for another.
-    pub fn new(room: Vec<u8>, applet: C) -> PatientCard<C>
-        requires { (room.items ≡ []) × (C.LIMIT ≤ vec_capacity room) }
+    /// Makes the end after a reset, with the rooms of `rooms_for`. IFSD is 32 until the terminal
+    /// asks for another.
+    pub fn new(rooms: Rooms, applet: C) -> PatientCard<C>
+        requires { AreRooms C.LIMIT rooms }
         ensures { result ≡ record {
           end = record { card = applet; at = card_after []; over = false };
           kept = [];
@@ -54,7 +55,7 @@ impl<C: Applet> PatientCard<C> {
         } }
     {
         PatientCard {
-            end: BlockCard::new(room, applet),
+            end: BlockCard::new(rooms, applet),
             kept: Receiver::new(),
             asked: None,
         }

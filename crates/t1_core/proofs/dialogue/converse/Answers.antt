@@ -2,7 +2,8 @@ use Rattle.std.proofs.Common.{arith, [], ◌+◌, ◌∷◌, ◌++◌, sym, ap, 
 use Rattle.std.proofs.lemmas.List.{map-append}
 use Rattle.t1_core.specs.Carried.{HasCarried, answers_in}
 use Rattle.t1_core.specs.TerminalSide.{has_stopped}
-use Rattle.t1_core.proofs.Carrying.{SomeConversed, first_of, is_over, list_conversed, none_conversed, none_yet, one_more_carried, on_err, one_more_conversed, some_conversed}
+use Rattle.t1_core.proofs.CardSteps.{on_err}
+use Rattle.t1_core.proofs.Carrying.{SomeConversed, first_of, is_over, list_conversed, none_conversed, none_yet, one_more_carried, one_more_conversed, some_conversed}
 use Rattle.t1_core.proofs.dialogue.converse.Goals as goal
 use Rattle.t1_core.proofs.dialogue.converse.Goals.{else-loop-command-test, then-loop-command-test+in_ok-carry+then-not-is_ready}
 
@@ -72,8 +73,8 @@ returns-clause-talked g c =
           w.in_ok-carry.ensures.stopped (λ ready. absurd (let no = sym ready ∙ not_ready in cc)))
     ]
 
-pub returns-in_err-room-clause-memory : goal.returns-in_err-room-clause-memory
-returns-in_err-room-clause-memory g c =
+pub returns-in_err-rooms-clause-memory : goal.returns-in_err-rooms-clause-memory
+returns-in_err-rooms-clause-memory g c =
     on_err _ (none_conversed g.C.Applet (λ v. v.items) c.args.settings c.args.applet
     (g.L.Line.passed c.args.line.now) c.args.commands.now)
 

@@ -1,5 +1,5 @@
 //! The bytes of a block: NAD 00, PCB, LEN, the field and the LRC.
-ghost use Rattle.std.specs.Prelude.{◌≡◌, ◌≤◌, ◌<◌, ◌++◌, ◌∷◌, [], List, ℕ, true, length, IfOk, IfSome, Some, None};
+ghost use Rattle.std.specs.Prelude.{◌≡◌, ◌≤◌, ◌<◌, ◌+◌, ◌++◌, ◌∷◌, [], List, ℕ, true, length, take, IfSome, Some, None};
 ghost use Rattle.std.specs.Option.{option_map};
 ghost use Rattle.t1_core.specs.Block.{Block as Sent, is_filled, said};
 ghost use Rattle.t1_core.specs.BlockBytes.{lrc, spelled, parts_of, block_of, block_in, bytes_of, fault_of, info_of, control_of, field_of, subject_of};
@@ -8,7 +8,6 @@ ghost use Rattle.t1_core.specs.declared.pcb.Pcb.TheVariants.{Supervisory};
 
 use crate::block::{Block, Control};
 use crate::pcb::{BlockReason, Pcb, Subject};
-use std::alloc::{AllocError, Global};
 
 /// The exclusive-or of all bytes (ISO/IEC 7816-3, clause 11: LRC).
 pub fn lrc(bytes: &[u8]) -> u8
@@ -21,52 +20,66 @@ pub fn lrc(bytes: &[u8]) -> u8
     sum
 }
 
-/// Returns the bytes of a block, 4 to 258. Its field must have at most 254 bytes.
-///
-/// # Errors
-/// - `AllocError`: memory ran out; nothing has changed.
-pub fn write(alloc: Global, block: Block<'_>) -> Result<Vec<u8>, AllocError>
-    requires { length (info_of (said block)) ≤ 254 }
-    ensures { IfOk result (λ v. v.items ≡ bytes_of (said block.entry)) }
+/// The longest block, in bytes: NAD, PCB, LEN, a field of 254 bytes, and the LRC.
+pub const BLOCK_ROOM: usize = 258;
+
+/// Writes the bytes of a block to the front of `out`, which has at least `BLOCK_ROOM`. Returns how
+/// many they are, 4 to 258. The block's field must have at most 254 bytes.
+pub fn write(block: Block<'_>, out: &mut [u8]) -> usize
+    requires field { length (info_of (said block)) ≤ 254 }
+    requires room { BLOCK_ROOM ≤ length out.old }
+    ensures bytes { take result out.new ≡ bytes_of (said block.entry) }
+    ensures room { (result ≤ BLOCK_ROOM) × (length out.new ≡ length out.old) }
 {
     match block {
         Block::Information { number, more, info } => {
-            spell(alloc, Pcb::Information { number, more }, info)
+            spell(Pcb::Information { number, more }, info, out)
         }
         Block::Ready { number, reason } => {
             let error = reason.code();
-            spell(alloc, Pcb::Ready { number, error }, &[])
+            spell(Pcb::Ready { number, error }, &[], out)
         }
-        Block::Request(control) => write_control(alloc, false, control),
-        Block::Response(control) => write_control(alloc, true, control),
+        Block::Request(control) => write_control(false, control, out),
+        Block::Response(control) => write_control(true, control, out),
     }
 }
 
-fn write_control(alloc: Global, response: bool, control: Control) -> Result<Vec<u8>, AllocError>
-    ensures { IfOk result (λ v. v.items
-        ≡ spelled (Supervisory response (subject_of control)) (field_of control)) }
+fn write_control(response: bool, control: Control, out: &mut [u8]) -> usize
+    requires { BLOCK_ROOM ≤ length out.old }
+    ensures bytes { take result out.new
+        ≡ spelled (Supervisory response (subject_of control)) (field_of control) }
+    ensures room { (result ≤ BLOCK_ROOM) × (length out.new ≡ length out.old) }
 {
     let pcb = |subject| Pcb::Supervisory { response, subject };
     match control {
-        Control::Resynch => spell(alloc, pcb(Subject::Resynch), &[]),
-        Control::Ifs(size) => spell(alloc, pcb(Subject::Ifs), &[size]),
-        Control::Abort => spell(alloc, pcb(Subject::Abort), &[]),
-        Control::Wtx(multiple) => spell(alloc, pcb(Subject::Wtx), &[multiple]),
+        Control::Resynch => spell(pcb(Subject::Resynch), &[], out),
+        Control::Ifs(size) => spell(pcb(Subject::Ifs), &[size], out),
+        Control::Abort => spell(pcb(Subject::Abort), &[], out),
+        Control::Wtx(multiple) => spell(pcb(Subject::Wtx), &[multiple], out),
     }
 }
 
-fn spell(alloc: Global, pcb: Pcb, info: &[u8]) -> Result<Vec<u8>, AllocError>
-    requires { length info.now ≤ 254 }
-    ensures { IfOk result (λ v. v.items ≡ spelled pcb info.now) }
+fn spell(pcb: Pcb, info: &[u8], out: &mut [u8]) -> usize
+    requires field { length info.now ≤ 254 }
+    requires room { BLOCK_ROOM ≤ length out.old }
+    ensures bytes { take result out.new ≡ spelled pcb info.now }
+    ensures room { (result ≤ BLOCK_ROOM) × (length out.new ≡ length out.old) }
 {
-    let mut out = Vec::with_capacity(alloc, info.len() + 4)?;
-    out.push(0)?;
-    out.push(pcb.byte())?;
-    out.push(info.len() as u8)?;
-    out.extend_from_slice(info)?;
-    let check = lrc(&out);
-    out.push(check)?;
-    Ok(out)
+    put(out, 0, &[0, pcb.byte(), info.len() as u8]);
+    put(out, 3, info);
+    let end = info.len() + 3;
+    let check = lrc(&out[..end]);
+    put(out, end, &[check]);
+    end + 1
+}
+
+/// Copies bytes to this index.
+fn put(out: &mut [u8], at: usize, from: &[u8])
+    requires { at + length from.now ≤ length out.old }
+    ensures bytes { take (at + length from.now) out.new ≡ take at out.old ++ from.now }
+    ensures room { length out.new ≡ length out.old }
+{
+    out[at..at + from.len()].copy_from_slice(from);
 }
 
 /// Decodes a whole block. `None` if `parts` returns `None`, or if the field has a wrong size. An

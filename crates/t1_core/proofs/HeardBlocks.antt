@@ -1,12 +1,11 @@
 -- What one more block changes at a tap that has missed nothing.
-use Rattle.std.proofs.Common.{◌≡◌, ◌≢◌, refl, sym, ap, subst, ◌∙◌, ℕ, Bool, true, false, not, List, [], ◌∷◌, ◌++◌, length, Some, append_assoc, append-nil, cond}
-use Rattle.std.proofs.lemmas.Bool.{eq-eqb}
+use Rattle.std.proofs.Common.{◌≡◌, ◌≢◌, refl, sym, ap, subst, ◌∙◌, ℕ, Bool, true, false, not, List, [], ◌∷◌, ◌++◌, length, Some, None, append_assoc, append-nil, cond}
+use Rattle.std.proofs.lemmas.Slice.Eq.{bytes_eq-Decides}
 use Rattle.std.proofs.Math.Seq.{take-append_seam, take-length}
 use Rattle.std.specs.List.{AllByRecursion}
 use Rattle.t1_core.specs.declared.block.Control.TheVariants.{Abort, Ifs, Resynch, Wtx}
 use Rattle.t1_core.specs.declared.gathered.Progress.{Progress}
 use Rattle.t1_core.specs.declared.gathered.Progress.TheVariants.{Nothing, Begun, Whole, Unknown}
-use Rattle.t1_core.specs.declared.pcb.BlockReason.{BlockReason}
 use Rattle.t1_core.specs.declared.reading.End.{End}
 use Rattle.t1_core.specs.declared.reading.End.TheVariants.{Terminal, Card}
 use Rattle.t1_core.specs.declared.reading.Reading.{Reading}
@@ -18,7 +17,7 @@ use Rattle.t1_core.specs.Gathering.{Gathered}
 use Rattle.t1_core.specs.Hearing.{AreItems, Heard, Item}
 use Rattle.t1_core.specs.Items.{Found, Valid, Damaged, Cut}
 use Rattle.t1_core.specs.Overhearing.{IsKnown, Message, Passed, Story, blocks_in, is_known, messages, over_at, tells, tells_all, valid_in}
-use Rattle.t1_core.specs.Reading.{goes, is_again, is_end, numbers_of, peer, reads, sent}
+use Rattle.t1_core.specs.Reading.{goes, is_end, numbers_of, peer, reads, sent}
 use Rattle.t1_core.proofs.Bits.{same_self, same_other_2}
 
 -- ---- blocks, one after another
@@ -52,9 +51,13 @@ stays s = rw (over_none s.now.progress s.now refl) (rw (append-nil s.given) refl
 
 -- ---- what the tap knows between two blocks
 
--- what has no part in this: whether the card has asked for a block again
+-- what has no part in this: the granted IFS
 abbrev bare : Reading → Reading
-bare r = record r { missed = false; again = false }
+bare r = record r {
+  missed = false;
+  terminal = record r.terminal { ifs = None };
+  card = record r.card { ifs = None };
+}
 
 abbrev pub Here : (Reading → Story → Type 0) → Reading → Story → Type 0
 Here Q r s = (r.missed ≡ false) × Q (bare r) s
@@ -89,7 +92,7 @@ pub record New (from : End) (own peers : Bool) (rest done : List Message) (front
   pub peers_is : (numbers_of (peer from) r).next ≡ peers
   pub turn : r.turn ≡ cond more from (peer from)
   pub within : r.within ≡ more
-  pub newest : (numbers_of from r).newest ≡ Some (more, length field)
+  pub newest : (numbers_of from r).newest ≡ Some (more, field)
   pub told : s.given ++ rest ≡ done
   pub now : s.now ≡ put from front field more
 
@@ -102,27 +105,31 @@ IsPlain (Response (Ifs size)) = Unit {0}
 IsPlain (Response (Wtx multiple)) = Unit {0}
 IsPlain _ = ⊥
 
--- a block without a field changes at most whether the card has asked for one again
+-- a block without a field changes at most the granted IFS
 pub plain : (Q : Reading → Story → Type 0) (r : Reading) (s : Story) (from : End) (b : Block)
     → IsPlain b → Here Q r s → One (Here Q) r s from b
 plain Q r s Card (Response Resynch) is h = absurd is
 plain Q r s from (Response Resynch) is h = absurd is
 plain Q r s from (Response Abort) is h = absurd is
 plain Q r s from (I number more field) is h = absurd is
+plain Q r s Terminal (Response (Ifs size)) is h = (refl, subst (Here Q r) (sym (stays s)) h)
+plain Q r s Card (Response (Ifs size)) is h = (refl, subst (Here Q r) (sym (stays s)) h)
 plain Q r s from (R number why) is h =
-    by from r.missed (cond (same number (numbers_of (peer from) r).next)
-    (cond r.within (not (is_end from r.turn)) false) false)
-    (cond r.again true
-    (is_again (same number (numbers_of (peer from) r).next) r.within from r.turn)) h.0 where
-      by : (end : End) (missed next again : Bool) → missed ≡ false
-          → let read : Role × Reading = cond missed (role.Unknown, r)
-          (cond next (role.Acknowledgement, r) (role.Asks, record r { again = again })) in
-          (is_known read.0 ≡ true) × Here Q read.1 (tells s end read.0 (Valid (R number why)))
-      by end true next again was = absurd (let is = was in cc)
-      by Terminal false true again was = (refl, subst (Here Q r) (sym (stays s)) h)
-      by Terminal false false again was = (refl, subst (Here Q r) (sym (stays s)) h)
-      by Card false true again was = (refl, subst (Here Q r) (sym (stays s)) h)
-      by Card false false again was = (refl, subst (Here Q r) (sym (stays s)) h)
+    by from r.missed r.within (is_end from r.turn) (same number (numbers_of (peer from) r).next)
+    h.0 where
+      by : (end : End) (missed within turn next : Bool) → missed ≡ false
+          → let role : Role = cond missed role.Unknown
+          (cond (cond within (cond turn false next) false) role.Acknowledgement role.Asks) in
+          (is_known role ≡ true) × Here Q r (tells s end role (Valid (R number why)))
+      by end true within turn next was = absurd (let is = was in cc)
+      by Terminal false true false true was = (refl, subst (Here Q r) (sym (stays s)) h)
+      by Card false true false true was = (refl, subst (Here Q r) (sym (stays s)) h)
+      by Terminal false true false false was = (refl, subst (Here Q r) (sym (stays s)) h)
+      by Card false true false false was = (refl, subst (Here Q r) (sym (stays s)) h)
+      by Terminal false true true next was = (refl, subst (Here Q r) (sym (stays s)) h)
+      by Card false true true next was = (refl, subst (Here Q r) (sym (stays s)) h)
+      by Terminal false false turn next was = (refl, subst (Here Q r) (sym (stays s)) h)
+      by Card false false turn next was = (refl, subst (Here Q r) (sym (stays s)) h)
 plain Q r s from _ is h = (refl, subst (Here Q r) (sym (stays s)) h)
 
 -- the block is read so, and told so
@@ -133,27 +140,6 @@ one P r now s told from b role is known so p =
     subst (λ x. (is_known x.0 ≡ true) × P x.1 (tells s from x.0 (Valid b))) (sym is)
     (known, subst (P now) (sym so) p)
 
--- the card asks for the terminal's field again
-pub asked : (n : Bool) {cn more : Bool} {rest done : List Message} {front field : List ℕ}
-    (r : Reading) (s : Story) (why : BlockReason)
-    → Here (New Terminal (other n) cn rest done front field more) r s
-    → One (λ r' s'. Here (New Terminal (other n) cn rest done front field more) r' s'
-    × (r'.again ≡ true)) r s Card (R n why)
-asked n {cn} {more} {rest} {done} {front} {field} r s why h =
-    one (λ r' s'. Here (New Terminal (other n) cn rest done front field more) r' s'
-    × (r'.again ≡ true)) r (record r { again = true }) s s Card (R n why) role.Asks is refl
-    (stays s)
-    (h, refl) where
-      so : (again more : Bool) → cond again true
-          (is_again false more Card (cond more Terminal Card))
-          ≡ true
-      so true more = refl
-      so false true = refl
-      so false false = refl
-
-      is : reads r Card (Valid (R n why)) ≡ (role.Asks, record r { again = true })
-      is = rw (h.0, h.1.own_is, h.1.turn, h.1.within, same_other_2 n, so r.again more) refl
-
 same_end : (e : End) → is_end e e ≡ true
 same_end Terminal = refl
 same_end Card = refl
@@ -163,17 +149,17 @@ sends : (from : End) (n peers more : Bool) (rest given done : List Message) (fro
     (role : Role) (r : Reading) (s : Story) → r.missed ≡ false
     → (numbers_of (peer from) (bare r)).next ≡ peers → given ++ rest ≡ done
     → reads r from (Valid (I n more field))
-    ≡ (role, goes (sent r from n (more, length field)) from more) → is_known role ≡ true
+    ≡ (role, goes (sent r from n (more, field)) from more) → is_known role ≡ true
     → tells s from role (Valid (I n more field))
     ≡ record { given = given; now = put from front field more }
     → One (Here (New from (other n) peers rest done front field more)) r s from (I n more field)
 sends from n peers more rest given done front field role r s missed same told is known so =
     one (Here (New from (other n) peers rest done front field more)) r
-    (goes (sent r from n (more, length field)) from more) s _ from (I n more field) role is known so
+    (goes (sent r from n (more, field)) from more) s _ from (I n more field) role is known so
     (by from same) where
       by : (e : End) → (numbers_of (peer e) (bare r)).next ≡ peers
           → Here (New e (other n) peers rest done front field more)
-          (goes (sent r e n (more, length field)) e more)
+          (goes (sent r e n (more, field)) e more)
           (record { given = given; now = put e front field more })
       by Terminal is = (
         missed,
@@ -212,7 +198,7 @@ new_field from n more field {peers} {rest} {done} {front} r s h =
     (so r.within s more h.1.newest) where
       is : (e : End) → (numbers_of e (bare r)).next ≡ n → r.turn ≡ e
           → reads r e (Valid (I n more field))
-          ≡ (role.Field (not r.within) (not more), goes (sent r e n (more, length field)) e more)
+          ≡ (role.Field (not r.within) (not more), goes (sent r e n (more, field)) e more)
       is Terminal own turn = rw (h.0, own, same_self n, turn) refl
       is Card own turn = rw (h.0, own, same_self n, turn) refl
 
@@ -223,48 +209,51 @@ new_field from n more field {peers} {rest} {done} {front} r s h =
       so true s false h = rw (h.0, take-length s.now.bytes, h.2) refl
       so false s more h = rw h.1 refl
 
--- an end sends its newest field again, and may cut it
-sends_again : (from : End) (n more : Bool) (f : List ℕ) {peers was : Bool}
-    {rest done : List Message}
+-- it sends its newest field again
+pub once_more : (from : End) (n : Bool) {peers more : Bool} {rest done : List Message}
     {front field : List ℕ} (r : Reading) (s : Story)
-    → Here (New from (other n) peers rest done front field was) r s
-    → reads r from (Valid (I n more f))
-    ≡ (role.Repetition (not more), goes (sent r from n (more, length f)) from more)
-    → One (Here (New from (other n) peers rest done front f more)) r s from (I n more f)
-sends_again from n more f {peers} {was} {rest} {done} {front} {field} r s h is =
-    sends from n peers more rest s.given done front f (role.Repetition (not more)) r s h.0
-    h.1.peers_is h.1.told is refl (so more) where
-      so : (more : Bool) → tells s from (role.Repetition (not more)) (Valid (I n more f))
-          ≡ record { given = s.given; now = put from front f more }
+    → Here (New from (other n) peers rest done front field more) r s
+    → One (Here (New from (other n) peers rest done front field more)) r s from (I n more field)
+once_more from n {peers} {more} {rest} {done} {front} {field} r s h =
+    sends from n peers more rest s.given done front field (role.Repetition (not more)) r s h.0
+    h.1.peers_is h.1.told (is from h.1.own_is h.1.turn h.1.within h.1.newest) refl (so more) where
+      newest : (e : End) (more : Bool) → same more (is_end e (cond more e (peer e))) ≡ true
+      newest Terminal true = refl
+      newest Terminal false = refl
+      newest Card true = refl
+      newest Card false = refl
+
+      is : (e : End) → (numbers_of e (bare r)).next ≡ other n → r.turn ≡ cond more e (peer e)
+          → r.within ≡ more → (numbers_of e (bare r)).newest ≡ Some (more, field)
+          → reads r e (Valid (I n more field))
+          ≡ (role.Repetition (not more), goes (sent r e n (more, field)) e more)
+      is Terminal own turn within old = rw (
+        h.0,
+        own,
+        same_other_2 n,
+        within,
+        turn,
+        newest Terminal more,
+        old,
+        same_self more,
+        (bytes_eq-Decides field field).1 refl,
+      ) refl
+      is Card own turn within old = rw (
+        h.0,
+        own,
+        same_other_2 n,
+        within,
+        turn,
+        newest Card more,
+        old,
+        same_self more,
+        (bytes_eq-Decides field field).1 refl,
+      ) refl
+
+      so : (more : Bool) → tells s from (role.Repetition (not more)) (Valid (I n more field))
+          ≡ record { given = s.given; now = put from front field more }
       so true = rw (h.1.now, same_end from, append-nil s.given, take-append_seam front field) refl
       so false = rw (h.1.now, same_end from, append-nil s.given, take-append_seam front field) refl
-
--- the card has asked for it
-pub terminal_again : (n more : Bool) (f : List ℕ) {peers was : Bool} {rest done : List Message}
-    {front field : List ℕ} (r : Reading) (s : Story)
-    → Here (New Terminal (other n) peers rest done front field was) r s → r.again ≡ true
-    → One (Here (New Terminal (other n) peers rest done front f more)) r s Terminal (I n more f)
-terminal_again n more f r s h again =
-    sends_again Terminal n more f r s h (rw (h.0, h.1.own_is, again, same_other_2 n) refl)
-
-pub card_again : (n : Bool) {peers more : Bool} {rest done : List Message} {front field : List ℕ}
-    (r : Reading) (s : Story) → Here (New Card (other n) peers rest done front field more) r s
-    → One (Here (New Card (other n) peers rest done front field more)) r s Card (I n more field)
-card_again n {peers} {more} {rest} {done} {front} {field} r s h =
-    sends_again Card n more field r s h (rw (
-      h.0,
-      h.1.own_is,
-      h.1.newest,
-      same_other_2 n,
-      none r.again,
-      same_self more,
-      eq-eqb (length field) (length field) refl,
-      h.1.turn,
-      h.1.within,
-    ) refl) where
-      none : (again : Bool) → cond again false false ≡ false
-      none true = refl
-      none false = refl
 
 -- ---- the field has arrived
 

@@ -29,7 +29,7 @@ use Rattle.t1_core.specs.Gathering.{Gathered}
 use Rattle.t1_core.specs.Hearing.{AreItems, Heard, Item}
 use Rattle.t1_core.specs.Reading.{fresh, is_end, peer}
 use Rattle.t1_core.specs.World.{World, run, start}
-use Rattle.t1_core.proofs.HeardBlocks.{Here, IsPlain, Level, New, Newest, One, Then, asked, card_again, it_ends, more_follows, new_field, of_items, plain, terminal_again, then_more}
+use Rattle.t1_core.proofs.HeardBlocks.{Here, IsPlain, Level, New, Newest, One, Then, it_ends, more_follows, new_field, of_items, once_more, plain, then_more}
 use Rattle.t1_core.proofs.Holding.{AddsUp, Holds, HoldsAt, first, first_holds, first_is, heard_holds, many, moves, responding, sending, step_holds}
 use Rattle.t1_core.proofs.Places.{sent_at, sends_it, garble_at, garbles_it, takes_it, Kept, Spot, Place, Going, Opens, Behind, Taken, Waits, Grows, Between, Sent, Given_up, Finished, arrived, asking, card_at, card_in, comes, comes_next, garbled, grows, heard, is_heard, is_long, misses, numbered, out_at, out_of, proceeds, reply_of, runs, starts, step, terminal_in, uses, with_phase, world_of, IsHeard, error_of, is_step}
 
@@ -144,7 +144,7 @@ module _ (m : Meaning) (before commands : List (List ℕ)) where
   abbrev Inv : Kept → Spot → End → Reading → Story → Type 0
   Inv k (Behind false collected rest answering) Terminal r t =
       Here (At k (Behind false collected rest answering)) r t
-      ⊎ (Here (Ahead k (Behind false collected rest answering)) r t × (r.again ≡ true))
+      ⊎ Here (Ahead k (Behind false collected rest answering)) r t
   Inv k s at r t = Here (Mid k s at) r t
 
   -- the terminal's block has passed
@@ -161,8 +161,6 @@ module _ (m : Meaning) (before commands : List (List ℕ)) where
 
   -- the card's reply has passed
   abbrev Post : Kept → Spot → End → Reading → Story → Type 0
-  Post k (Behind asks collected rest answering) Terminal r t =
-      Here (Ahead k (Behind asks collected rest answering)) r t × (r.again ≡ true)
   Post k (Sent first got rest) at r t = Here (Ahead k (Sent first got rest)) r t
   Post k s at r t = Here (Mid k s at) r t
 
@@ -173,7 +171,7 @@ module _ (m : Meaning) (before commands : List (List ℕ)) where
   sends_one k (Behind false collected rest answering) Terminal why r t (inl h) =
       new_field Terminal k.number (more rest) k.field r t h
   sends_one k (Behind false collected rest answering) Terminal why r t (inr h) =
-      terminal_again k.number (more rest) k.field r t h.0 h.1
+      once_more Terminal k.number r t h
   sends_one k (Behind false collected rest answering) Card why r t h =
       new_field Terminal k.number (more rest) k.field r t h
   sends_one k (Waits rest n size true) at why r t h =
@@ -185,13 +183,12 @@ module _ (m : Meaning) (before commands : List (List ℕ)) where
   replies_one : (e : BlockReason) (k : Kept) (s : Spot) (at : End) (r : Reading) (t : Story)
       → IsHeard k s → Here (Received k s at) r t
       → One (Post k s at) r t Card (reply_of m before e k s)
-  replies_one e k (Behind asks collected rest answering) Terminal r t a h = asked k.number r t e h
   replies_one e k (Sent first got rest) at r t a (missed, inl h) =
       new_field Card k.due (more rest) k.last r t (missed, h)
   replies_one e k (Sent first got rest) Terminal r t a (missed, inr h) =
       new_field Card k.due (more rest) k.last r t (missed, h)
-  replies_one e k (Sent first got rest) Card r t a (missed, inr h) = card_again k.due r t
-      (missed, h)
+  replies_one e k (Sent first got rest) Card r t a (missed, inr h) =
+      once_more Card k.due r t (missed, h)
   replies_one e k (Between got b bytes) at r t a h = absurd a
   replies_one e k s at r t a h = plain (Mid k s at) r t Card (reply_of m before e k s) tt h
 
@@ -440,7 +437,7 @@ module _ (m : Meaning) (before commands : List (List ℕ)) where
       (λ n is. omega (arith, is))
   claim_inv w k (Behind false collected rest answering) Terminal r t ran same none holds (inr h) =
       claim_sent w k collected rest answering _ t ran same
-      (λ terminal cause gone. absurd (none cause gone)) holds h.0.1
+      (λ terminal cause gone. absurd (none cause gone)) holds h.1
   claim_inv w k s at r t ran same none holds h =
       claim_mid w k s at _ t ran same (λ terminal cause gone. absurd (none cause gone)) holds h.1
 
@@ -535,7 +532,7 @@ module _ (m : Meaning) (before commands : List (List ℕ)) where
       let none = drop_all k.size k.field holds.3 in
       uses_tap Terminal TriesSpent tries _ _ r t
       (claim_mid _ k (Behind asks collected rest answering) Terminal _ t refl refl
-      (λ t c e. ap (λ b. outcome_with true (b ++ rest) []) none) holds h.0.1)
+      (λ t c e. ap (λ b. outcome_with true (b ++ rest) []) none) holds h.1)
       (λ i. rw (take_all k.size k.field holds.3, none) (inr h))
   comes_tap at out k (Taken collected b bytes) tries extensions r t a holds h =
       behind_inv (record k { field = take k.size (b ∷ bytes); number = other k.number }) collected

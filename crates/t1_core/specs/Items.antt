@@ -1,6 +1,6 @@
 -- What bytes of a line at T=1 are: a valid block, a damaged one, or the first bytes of one (ISO/IEC
 -- 7816-3, clause 11).
-use Rattle.std.specs.Prelude.{ℕ, ◌+◌, ◌/◌, ◌%◌, ◌==◌, Bool, true, false, not, List, [], ◌∷◌, length, take, slice_index, slice_range, Option, Some, None, nat_lt, bit_xor, if◌then◌else◌}
+use Rattle.std.specs.Prelude.{ℕ, ◌≤◌, ◌+◌, ◌/◌, ◌%◌, ◌==◌, Bool, true, false, not, List, [], ◌∷◌, length, take, slice_index, slice_range, Option, Some, None, nat_lt, bit_xor, if◌then◌else◌}
 use Rattle.t1_core.specs.declared.found.Damage.{Damage}
 use Rattle.t1_core.specs.declared.found.Damage.TheVariants as damage
 use Rattle.t1_core.specs.declared.found.Found as declared
@@ -8,7 +8,7 @@ use Rattle.t1_core.specs.declared.found.Found.TheVariants as code
 use Rattle.t1_core.specs.declared.pcb.Pcb.{Pcb}
 use Rattle.t1_core.specs.declared.settings.Edc.{Edc}
 use Rattle.t1_core.specs.declared.settings.Edc.TheVariants.{Lrc, Crc}
-use Rattle.t1_core.specs.Block.{Block, said}
+use Rattle.t1_core.specs.Block.{Block, I, said}
 use Rattle.t1_core.specs.BlockBytes.{lrc, pcb_of, block_in}
 
 abbrev pub check_size : Edc → ℕ
@@ -57,6 +57,11 @@ abbrev pub seen : declared.Found → Found
 seen (code.Valid block) = Valid (said block)
 seen (code.Damaged damage) = Damaged damage
 seen code.Cut = Cut
+
+-- the field of an I-block has at most 254 bytes
+abbrev pub IsShort : Found → Type 0
+IsShort (Valid (I number more field)) = length field ≤ 254
+IsShort _ = Unit {0}
 
 abbrev pub found_block : (len : ℕ) → Option Block → Found
 found_block len None = Damaged damage.Len

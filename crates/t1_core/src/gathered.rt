@@ -29,8 +29,8 @@ pub enum Progress {
 /// The newest command or response that a tap has heard. Call `add` with each item. After a reset
 /// make a new one.
 ///
-/// A `Whole` one may be `Begun` again: the card asks for its last field again, and the terminal
-/// cuts that by a new IFSC.
+/// A `Whole` one may be `Begun` again: its end sends the last field once more, and cuts that by an
+/// IFS which the other end has granted.
 #[derive(Drop)]
 pub struct Gathered {
     from: End,

@@ -31,9 +31,12 @@ pub struct Item<'a> {
 /// its LEN puts the end, or sooner, where the other end begins. The README says how to use it.
 ///
 /// It hears what one end hears, at its connector. A role is `Unknown` if an I-block has the next
-/// N(S) out of turn, or the other one and is not the newest again: the tap has missed something.
-/// So are those of all later I-blocks and R-blocks, until the card ends a response, with an I-block
-/// of the terminal before that.
+/// N(S) out of turn, or the other one and is not the newest of both ends again: the tap has missed
+/// something, as a reset. So are those of all later I-blocks and R-blocks, until the card ends a
+/// response, with an I-block of the terminal before that.
+///
+/// It keeps the newest I-block of each end: one that is repeated has the same bytes, or the first
+/// ones of a field that a granted IFS cuts.
 #[derive(Drop)]
 pub struct Tap {
     edc: Edc,
@@ -138,12 +141,11 @@ impl Tap {
         }
         let (from, bytes) = (self.from, &self.bytes[..self.len]);
         let found = found_in(self.edc, bytes);
-        let (role, _) = self.reading.reads(from, found);
         Some(Item {
             from,
             bytes,
             found,
-            role,
+            role: self.reading.role(from, found),
         })
     }
 
@@ -159,6 +161,7 @@ impl Tap {
         self.reading = Reading::default();
     }
 
+    #[tactic(auto, using(crate::proofs::ShortFields::is_short))]
     fn go_on(&mut self)
         ensures after { self.new ≡ goes_on self.old }
         ensures open { self.new.ended ≡ false }
@@ -168,7 +171,7 @@ impl Tap {
             return;
         }
         let found = found_in(self.edc, &self.bytes[..self.len]);
-        (_, self.reading) = self.reading.reads(self.from, found);
+        self.reading.pass(self.from, found);
         self.bytes = [0; 260];
         self.len = 0;
         self.ended = false;

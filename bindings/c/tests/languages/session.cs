@@ -5,7 +5,7 @@ using System.Runtime.InteropServices;
 static class Program {
     struct Handle { public byte Live; public IntPtr Held; }
 
-    const string Library = "libgalliumtoad.so.1";
+    const string Library = "libgalliumtoad.so.0.3";
     [DllImport(Library)] static extern IntPtr gt_text(int code);
     [DllImport(Library)] static extern int gt_card_new(ref Handle card);
     [DllImport(Library)] static extern int gt_card_app(ref Handle card, byte[] aid, UIntPtr n);

@@ -13,7 +13,7 @@ def check(code):
         raise RuntimeError(library.gt_text(code).decode())
 
 
-library = CDLL("libgalliumtoad.so.1")
+library = CDLL("libgalliumtoad.so.0.3")
 library.gt_text.restype = c_char_p
 aid = bytes.fromhex("A0000000031010")
 data, room = create_string_buffer(8197), c_size_t(8197)

@@ -4,6 +4,7 @@
 import os
 import platform
 import re
+import sys
 from pathlib import Path
 
 import cffi
@@ -30,11 +31,22 @@ def declarations():
     return "\n".join([f"#define {name} ..." for name in numbers] + public)
 
 
+def find_archive():
+    """The archive for this Python's system."""
+    made = {it.parent.name.split("-")[0]: it for it in BINDINGS.glob("lib/*-linux-gnu/libcard_c.a")}
+    system, processor = platform.system(), platform.machine()
+    libc = platform.libc_ver()[0] or "no glibc"
+    bits = 64 if sys.maxsize > 1 << 32 else 32
+    if (system, libc, bits) != ("Linux", "glibc", 64) or processor not in made:
+        raise SystemExit("galliumtoad: the library is for Linux with glibc and 64 bits on"
+                         f" {' or '.join(sorted(made))}; this Python is for {system} with {libc}"
+                         f" and {bits} bits on {processor}")
+    return made[processor]
+
+
 def builder():
     """The extension module, for cffi's hook in setuptools."""
-    archive = BINDINGS / "lib" / f"{platform.machine()}-linux-gnu" / "libcard_c.a"
-    if not archive.is_file():
-        raise SystemExit(f"galliumtoad: there is no archive for Linux on {platform.machine()}")
+    archive = find_archive()
     there = archive.read_text("latin-1")
     if lacks := [it for it in re.findall(r"\bgalliumtoad_\w+(?=\()", TEXT) if it not in there]:
         raise SystemExit(f"galliumtoad: {archive} is not that of the header: no {lacks[0]}")

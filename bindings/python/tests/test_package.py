@@ -110,11 +110,46 @@ def test_what_pip_reads():
     }
 
 
+def copied(folder):
+    """Copies what a build reads, without the archive."""
+    for name in ("python/setup.py", "c/include/galliumtoad.h"):
+        (folder / name).parent.mkdir(parents=True)
+        shutil.copy(TOP.parent / name, folder / name)
+
+
+SYSTEMS = {
+    "platform.system = lambda: 'Darwin'": "Darwin with glibc and 64 bits on x86_64",
+    "platform.system = lambda: 'Windows'": "Windows with glibc and 64 bits on x86_64",
+    "platform.libc_ver = lambda: ('', '')": "Linux with no glibc and 64 bits on x86_64",
+    "platform.libc_ver = lambda: ('musl', '1.2.5')": "Linux with musl and 64 bits on x86_64",
+    "sys.maxsize = 2 ** 31 - 1": "Linux with glibc and 32 bits on x86_64",
+    "platform.machine = lambda: 'riscv64'": "Linux with glibc and 64 bits on riscv64",
+    "platform.machine = lambda: '..'": "Linux with glibc and 64 bits on ..",
+}
+
+
+@pytest.mark.parametrize("system", SYSTEMS)
+def test_a_system_without_an_archive_is_refused(tmp_path, system):
+    """In one line, before anything is compiled."""
+    copied(tmp_path)
+    for it in ("x86_64-linux-gnu", "aarch64-linux-gnu"):
+        (tmp_path / "lib" / it).mkdir(parents=True)
+        shutil.copy(TOP.parent / "lib" / it / "libcard_c.a", tmp_path / "lib" / it)
+    here = "platform.libc_ver = lambda: ('glibc', '2.31'); platform.machine = lambda: 'x86_64'"
+    program = "import platform, setup, sys; {}; setup.builder()"
+    done = python("-c", program.format(here), cwd=tmp_path / "python")
+    assert (done.returncode, done.stderr) == (0, "")
+    done = python("-c", program.format(f"{here}; {system}"), cwd=tmp_path / "python")
+    assert (done.returncode, done.stderr) == (
+        1,
+        "galliumtoad: the library is for Linux with glibc and 64 bits on aarch64 or x86_64;"
+        f" this Python is for {SYSTEMS[system]}\n",
+    )
+
+
 def test_an_archive_of_another_header_is_refused(tmp_path):
     """The build says so, and not the first import."""
-    for name in ("python/setup.py", "c/include/galliumtoad.h"):
-        (tmp_path / name).parent.mkdir(parents=True)
-        shutil.copy(TOP.parent / name, tmp_path / name)
+    copied(tmp_path)
     folder = f"{platform.machine()}-linux-gnu"
     archive = (TOP.parent / "lib" / folder / "libcard_c.a").read_bytes()
     (tmp_path / "lib" / folder).mkdir(parents=True)

@@ -26,13 +26,13 @@ start_pcscd() {
   pcscd=$!
 }
 
-# reader NAME DEVICE CHANNEL [LIBRARY]: adds a reader to the file; pcscd numbers the readers of a
-# file in order
+# reader NAME DEVICE CHANNEL [LIBRARY]: adds a reader to the file, where no path may have a space;
+# pcscd numbers the readers of a file in order
 reader() {
   cat >> "$room/readers" <<END
 FRIENDLYNAME "$1"
 DEVICENAME $2
-LIBPATH ${4:-$(cd "$build" && pwd)/virtual_reader.so}
+LIBPATH ${4:-$room/virtual_reader.so}
 CHANNELID $3
 END
 }
@@ -83,12 +83,13 @@ need_pcscd() {
     skip "$1" "there is no libpcsclite with its headers"
     sum
   fi
-  if ! make -s -C "${BASH_SOURCE[0]%/*}/.." BUILD="$build" virtual_reader pcsc_programs \
+  if ! make -s -C "${BASH_SOURCE[0]%/*}/.." virtual_reader pcsc_programs \
     > "$room/made" 2>&1; then
     cat "$room/made"
     failed=1
     sum
   fi
+  cp "$build/virtual_reader.so" "$room/"
   if pgrep -x pcscd > /dev/null; then
     skip "$1" "a pcscd runs already"
     sum

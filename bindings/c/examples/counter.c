@@ -1,5 +1,6 @@
 /* A card of your own application: the command 80 10 00 00 counts, and returns the count. Here it
- * goes by whole commands. By TPDUs, buffers or characters only `carry_out` is another. */
+ * goes by whole commands. By TPDUs, buffers or characters only `carry_out` is another. By buffers
+ * and characters a reset may drop a command that was counted: then gt_card_settled returns 0. */
 #include <galliumtoad.h>
 
 #include <stdio.h>

@@ -1782,7 +1782,8 @@ GT_FUNCTION void gt_card_free(gt_card *c) {
 /* ---- A card of your own application ----------------------------------------------------------
  *
  * You write what a command does; the card does the rest. It carries your commands over T=0 by
- * characters and buffers, as whole TPDUs and as whole commands, each at most once. Make it with
+ * characters and buffers, as whole TPDUs, and as whole commands. You get each once; a test shows
+ * that, no proof. One that was dropped and is sent again is another one. Make the card with
  * `gt_card_own`. These calls above work on it: gt_card_take, _turn, _send_bytes, _receive_bytes,
  * _tpdu, _apdu, _plan, _reset and _free, and all of T=1. The others return GT_STATE, also
  * gt_session_start.
@@ -1892,8 +1893,11 @@ GT_MUST_CHECK int32_t gt_card_direction(gt_card *c, int to_card) {
     return galliumtoad_card_direction(c, to_card != 0);
 }
 
-/* Answers the command that waits: `n` bytes of data, and `status`. They are copied. What goes out
- * is this response. If you can't carry the command out, answer 6581 or another status.
+/* Answers the command that waits: `n` bytes of data, and `status`. They are copied. If you can't
+ * carry the command out, answer 6581 or another status.
+ *
+ * The command gets this response. For a TPDU what is proved also allows 6581 alone, and a test
+ * refuses that. After a reset, and at T=1 after a block, nothing of the response goes out.
  *
  * - GT_OK: it is taken. Call again what returned GT_COMMAND: a whole TPDU or command with NULL, 0.
  * - GT_STATE: no command waits, the NULL or S(WTX request) of gt_card_more_time is in progress, or

@@ -59,7 +59,7 @@ pub trait Application {
     /// 7816-3, 10.3.1). If not, data may come from the card.
     fn takes_data(&self, header: [u8; 4]) -> bool;
 
-    /// Carries out a command, once. If the response is longer than the terminal asks for, the card
+    /// Carries out a command. If the response is longer than the terminal asks for, the card
     /// keeps the rest for GET RESPONSE. If a TPDU asks for more, and it is not empty, the card
     /// answers `6CXX`. The status follows the last byte. It is a status word: `6X` except `60`, or
     /// `9X`, and any byte. It is not `61XX` or `6CXX`, which are the card's own.
@@ -76,9 +76,10 @@ pub trait Application {
 
 /// A card of an [`Application`] of your own: you write what a command does. It goes over T=0, by
 /// characters and buffers, as whole TPDUs and as whole commands, and over T=1 in a
-/// [`CardT1`](crate::CardT1). A command is carried out at most once, by [`turn`](Card::turn),
+/// [`CardT1`](crate::CardT1). A command is carried out once, by [`turn`](Card::turn),
 /// [`send_bytes`](Card::send_bytes), [`tpdu`](Card::tpdu), [`apdu`](Card::apdu), their forms with
-/// `_into`, or [`CardT1::block_into`](crate::CardT1::block_into). The card itself answers GET
+/// `_into`, or [`CardT1::block_into`](crate::CardT1::block_into): that is tested, not proved. A
+/// command that was dropped and is sent again is another one. The card itself answers GET
 /// RESPONSE, the same header with the P3 that `6CXX` names, INS `6X` and `9X` (of `apdu`
 /// [`Error::InvalidIns`]), and with `6700` [wrong whole commands](Card::apdu).
 ///

@@ -8,8 +8,10 @@ pub const OWN_RESPONSE_LIMIT: usize = 4_096;
 
 /// An application above the card's end: it gets whole commands, and returns whole responses.
 ///
-/// Each command is carried out once, by `carry_out`. It takes effect at `settle`, once the status
-/// of its TPDU is sent; for a whole command, at once. A reset before that drops it.
+/// `carry_out` prepares a command. It takes effect at `settle`, once the status of its TPDU is
+/// sent; for a whole command, at once. A reset before that drops it. It is proved that each
+/// completed command takes effect once (law `each_command_at_most_once`). No clause counts the
+/// calls of `carry_out`: a second one is refused by the tests of given responses alone.
 pub trait Application {
     ghost use Rattle.std.specs.Prelude.{◌≡◌, [], Bool, IfOk, IfErr};
     ghost use Rattle.apdu_core.specs.declared.header.Header.{Header};

@@ -11,7 +11,7 @@
 //! ```
 //!
 //! Proved: each TPDU does what `specs/Meaning` says, whatever the terminal sends. [`laws`] says
-//! what follows: each command is carried out at most once, a terminal gathers the response, and
+//! what follows: each completed command takes effect once, a terminal gathers the response, and
 //! both lines answer alike.
 #![tactic(auto)]
 

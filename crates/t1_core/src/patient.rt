@@ -25,9 +25,9 @@ use std::mem::swap;
 /// `take` keeps a block without a reply: the card above returned an error. Give that card what it
 /// needs (`with_applet`), and call `again`. Meanwhile `ask_time` asks the terminal for more time.
 ///
-/// The command is carried out once: when there is a reply, the block is dropped. The terminal's
-/// next block, valid or not, also drops it, and its command is not carried out. During the card's
-/// S(WTX request) only S(ABORT request) and S(RESYNCH request) do. `reset` always does.
+/// A reply drops the block, so its command is not carried out again. The terminal's next block,
+/// valid or not, also drops it, and its command is not carried out. During the card's S(WTX
+/// request) only S(ABORT request) and S(RESYNCH request) do. `reset` always does.
 #[derive(Drop)]
 pub struct PatientCard<C: Applet> {
     end: BlockCard<C>,

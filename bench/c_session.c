@@ -10,14 +10,14 @@
  * - apdus: the same, by whole commands. The characters are those of the TPDUs.
  * - t1: the same over T=1, with the library's ends. So apdus is the same without T=1.
  * - t1_by_hand: the same with the ends of t1_by_hand.c.
- * - by_hand: both ends of ends_by_hand.c, one character at a time.
- * - hand_buffers: the same by buffers.
  * - own_buffers, own_characters, own_tpdus, own_apdus: a terminal, and a card of your own that
  *   answers each get with its object, which has at most 4,000 bytes.
- * - data_buffers and so on: the same with a card of data objects. */
+ * - by_hand: both ends of ends_by_hand.c, by buffers. With BY_CHARACTERS one character at a time.
+ * - own_by_hand: the terminal of ends_by_hand.c and the card of own_by_hand.c, in the same way. */
 #define _POSIX_C_SOURCE 199309L
 
 #include "ends_by_hand.h"
+#include "own_by_hand.h"
 #include "t1_by_hand.h"
 
 #include <stdio.h>
@@ -123,17 +123,12 @@ static void ends_start(void)
 static uint8_t object[OWN_VALUE + 4];
 static size_t object_size;
 
+static const uint8_t DIRECTIONS[32] = GT_ISO_DIRECTIONS;
+
 static void own_start(void)
 {
-    static const uint8_t directions[32] = GT_ISO_DIRECTIONS;
     LOADS[3].size = LOADS[4].size = OWN_VALUE;
-    need(gt_card_own(&card, directions) == GT_OK && gt_terminal_new(&terminal) == GT_OK, "ends");
-}
-
-static void data_start(void)
-{
-    LOADS[3].size = LOADS[4].size = OWN_VALUE;
-    ends_start();
+    need(gt_card_own(&card, DIRECTIONS) == GT_OK && gt_terminal_new(&terminal) == GT_OK, "ends");
 }
 
 static void make_object(const struct load *load)
@@ -326,7 +321,7 @@ static uint16_t hand_t1_carry_out(const struct load *load, size_t *len)
 
 static struct terminal hand_terminal;
 static struct card hand_card;
-static size_t passed;
+static struct own_card hand_own;
 
 static void hand_start(void)
 {
@@ -336,6 +331,25 @@ static void hand_start(void)
     for (i = 0; i < 2; i++)
         need(card_object(&hand_card, LOADS[i].tag, value, LOADS[i].size) == NO_FAULT, "an object");
     need(card_object(&hand_card, 0x50, value, sizeof value) == NO_FAULT, "an object");
+}
+
+static void hand_own_start(void)
+{
+    LOADS[3].size = LOADS[4].size = OWN_VALUE;
+    terminal_new(&hand_terminal);
+    memcpy(hand_own.directions, DIRECTIONS, sizeof DIRECTIONS);
+    hand_own.live = true;
+}
+
+/* Answers the command that waits at the card of your own, as `respond` does. */
+static bool hand_respond(enum own_turn turn)
+{
+    struct own_command command;
+    if (turn != OWN_COMMAND)
+        return false;
+    need(own_command(&hand_own, &command)
+         && own_respond(&hand_own, object, command.size ? 0 : object_size, OK), "a response");
+    return true;
 }
 
 static void hand_begin(const struct load *load)
@@ -350,39 +364,84 @@ static void hand_begin(const struct load *load)
     need(fault == NO_FAULT, "an operation");
 }
 
+#ifdef BY_CHARACTERS
+
 static uint16_t hand_carry_out(const struct load *load, size_t *len)
 {
     uint8_t byte;
     enum turn turn;
-    size_t count = 0;
     hand_begin(load);
     while ((turn = terminal_next(&hand_terminal, &byte)) != DONE) {
-        count++;
         if (turn == SENDS)
             need(card_take(&hand_card, byte) == NO_FAULT, "the card listens");
         else
             need(card_turn(&hand_card, &byte) == SENDS
                  && terminal_take(&hand_terminal, byte) == NO_FAULT, "the terminal listens");
     }
-    passed = count;
     return terminal_answer(&hand_terminal, data, sizeof data, len);
 }
 
-static uint16_t hand_buffers(const struct load *load, size_t *len)
+static uint16_t hand_own_carry_out(const struct load *load, size_t *len)
 {
-    static uint8_t buffer[BUFFER];
+    uint8_t byte;
+    enum turn turn;
+    hand_begin(load);
+    while ((turn = terminal_next(&hand_terminal, &byte)) != DONE) {
+        enum own_turn own;
+        if (turn == SENDS) {
+            need(own_take(&hand_own, byte), "the card listens");
+            continue;
+        }
+        while (hand_respond(own = own_turn(&hand_own, &byte)))
+            continue;
+        need(own == OWN_SENDS && terminal_take(&hand_terminal, byte) == NO_FAULT,
+             "the terminal listens");
+    }
+    return terminal_answer(&hand_terminal, data, sizeof data, len);
+}
+
+#else
+
+static uint8_t buffer_by_hand[BUFFER];
+
+static uint16_t hand_carry_out(const struct load *load, size_t *len)
+{
+    uint8_t *const buffer = buffer_by_hand;
     size_t n, taken;
     hand_begin(load);
     for (;;) {
-        enum turn turn = terminal_send_bytes(&hand_terminal, buffer, sizeof buffer, &n);
+        enum turn turn = terminal_send_bytes(&hand_terminal, buffer, BUFFER, &n);
         need(card_receive_bytes(&hand_card, buffer, n, &taken) == NO_FAULT, "the card listens");
         if (turn == DONE)
             return terminal_answer(&hand_terminal, data, sizeof data, len);
-        need(turn == LISTENS && card_send_bytes(&hand_card, buffer, sizeof buffer, &n) == LISTENS
+        need(turn == LISTENS && card_send_bytes(&hand_card, buffer, BUFFER, &n) == LISTENS
              && terminal_receive_bytes(&hand_terminal, buffer, n, &taken) == NO_FAULT,
              "the terminal listens");
     }
 }
+
+static uint16_t hand_own_carry_out(const struct load *load, size_t *len)
+{
+    uint8_t *const buffer = buffer_by_hand;
+    size_t n, taken;
+    hand_begin(load);
+    for (;;) {
+        enum turn turn = terminal_send_bytes(&hand_terminal, buffer, BUFFER, &n);
+        enum own_turn own;
+        need(own_receive_bytes(&hand_own, buffer, n, &taken), "the card listens");
+        if (turn == DONE)
+            return terminal_answer(&hand_terminal, data, sizeof data, len);
+        do {
+            own = own_send_bytes(&hand_own, buffer, BUFFER, &n);
+            need(n == 0
+                 || terminal_receive_bytes(&hand_terminal, buffer, n, &taken) == NO_FAULT,
+                 "the terminal listens");
+        } while (hand_respond(own));
+        need(own == OWN_LISTENS, "the card listens");
+    }
+}
+
+#endif
 
 /* ---- What is measured ------------------------------------------------------------------------ */
 
@@ -401,14 +460,10 @@ static const struct way {
     { "own_characters", own_start, characters_carry_out },
     { "own_tpdus", own_start, tpdus_carry_out },
     { "own_apdus", own_start, apdus_carry_out },
-    { "data_buffers", data_start, buffers_carry_out },
-    { "data_characters", data_start, characters_carry_out },
-    { "data_tpdus", data_start, tpdus_carry_out },
-    { "data_apdus", data_start, apdus_carry_out },
     { "t1", t1_start, t1_carry_out },
     { "t1_by_hand", hand_t1_start, hand_t1_carry_out },
     { "by_hand", hand_start, hand_carry_out },
-    { "hand_buffers", hand_start, hand_buffers },
+    { "own_by_hand", hand_own_start, hand_own_carry_out },
 };
 
 /* The processor time of this program, so that other work of the machine matters less. */
@@ -429,17 +484,15 @@ static void carry_out(const struct way *way, const struct load *load)
         need(len == head + load->size && data[len - 1] == CONTENT, "other data");
 }
 
-/* Checks that this way needs the expected number of characters for the operation, if it counts
- * them. */
+/* Checks that a session needs the expected number of characters for the operation, if it is heard. */
 static void check_characters(const struct way *way, const struct load *load)
 {
     size_t count = 0;
     carry_out(way, load);
-    if (way->start == heard_start)
-        need(gt_session_heard(&session, NULL, 0, &count) == GT_BUFFER, "characters");
-    else if (way->carry_out == hand_carry_out)
-        count = passed;
-    need(count == 0 || count == load->characters, "another number of characters");
+    if (way->start != heard_start)
+        return;
+    need(gt_session_heard(&session, NULL, 0, &count) == GT_BUFFER && count == load->characters,
+         "another number of characters");
 }
 
 /* Carries out `times` operations. A call by pointer keeps it a separate function, so that a

@@ -98,6 +98,8 @@ enum fault terminal_put(struct terminal *terminal, uint16_t tag, const uint8_t *
     return begin(terminal, PUT_DATA, (uint8_t)(tag >> 8), (uint8_t)tag, value, n, 0);
 }
 
+#ifdef BY_CHARACTERS
+
 static void end_out(struct terminal *terminal)
 {
     terminal->moved = terminal->until;
@@ -113,8 +115,11 @@ static void end_in(struct terminal *terminal)
         terminal->stage = HOST_AWAITING;
 }
 
+#endif
+
 enum turn terminal_next(struct terminal *terminal, uint8_t *byte)
 {
+#ifdef BY_CHARACTERS
     if (terminal->outs > 0) {
         *byte = *terminal->out++;
         if (--terminal->outs == 0)
@@ -123,10 +128,19 @@ enum turn terminal_next(struct terminal *terminal, uint8_t *byte)
     }
     if (terminal->ins > 0)
         return LISTENS;
+#endif
     if (!terminal->live)
         return DONE;
     switch (terminal->stage) {
     case HOST_MOVING:
+#ifndef BY_CHARACTERS
+        if (!terminal->asks) {
+            *byte = terminal->content[terminal->from + terminal->moved];
+            if (++terminal->moved == terminal->until)
+                terminal->stage = HOST_AWAITING;
+            return SENDS;
+        }
+#endif
         return LISTENS;
     case HOST_OPENING:
         *byte = terminal->header[terminal->sent];
@@ -166,6 +180,7 @@ static enum fault take_procedure_byte(struct terminal *terminal, uint8_t byte)
     if (terminal->moved < until) {
         terminal->until = until;
         terminal->stage = HOST_MOVING;
+#ifdef BY_CHARACTERS
         if (terminal->asks) {
             terminal->in = terminal->response + terminal->gathered;
             terminal->ins = less(until - terminal->moved, RESPONSE_LIMIT - terminal->gathered);
@@ -173,6 +188,7 @@ static enum fault take_procedure_byte(struct terminal *terminal, uint8_t byte)
             terminal->out = terminal->content + terminal->from + terminal->moved;
             terminal->outs = until - terminal->moved;
         }
+#endif
     }
     return NO_FAULT;
 }
@@ -216,16 +232,26 @@ static enum fault follow(struct terminal *terminal)
 
 enum fault terminal_take(struct terminal *terminal, uint8_t byte)
 {
+#ifdef BY_CHARACTERS
     if (terminal->ins > 0) {
         *terminal->in++ = byte;
         if (--terminal->ins == 0)
             end_in(terminal);
         return NO_FAULT;
     }
+#endif
     if (!terminal->live)
         return EMPTY;
     switch (terminal->stage) {
     case HOST_MOVING:
+#ifndef BY_CHARACTERS
+        if (terminal->asks && terminal->gathered < RESPONSE_LIMIT) {
+            terminal->response[terminal->gathered++] = byte;
+            if (++terminal->moved == terminal->until)
+                terminal->stage = HOST_AWAITING;
+            return NO_FAULT;
+        }
+#endif
         return terminal->asks ? TOO_LONG : NOT_LISTENING;
     case HOST_AWAITING:
         return take_procedure_byte(terminal, byte);
@@ -311,18 +337,26 @@ enum fault card_object(struct card *card, uint16_t tag, const uint8_t *value, si
 
 enum fault card_take(struct card *card, uint8_t byte)
 {
+#ifdef BY_CHARACTERS
     if (card->ins > 0) {
         *card->in++ = byte;
         if (--card->ins == 0)
             card->moved = card->opening[4];
         return NO_FAULT;
     }
+#endif
     if (!card->live)
         return EMPTY;
     if (card->stage == CARD_OPENING && card->taken < sizeof card->opening) {
         card->opening[card->taken++] = byte;
         return NO_FAULT;
     }
+#ifndef BY_CHARACTERS
+    if (card->stage == CARD_RECEIVING && card->moved < card->opening[4]) {
+        card->came[card->moved++] = byte;
+        return NO_FAULT;
+    }
+#endif
     return NOT_LISTENING;
 }
 
@@ -544,6 +578,8 @@ static void settle(struct card *card)
         card->response = card->sends;
 }
 
+#ifdef BY_CHARACTERS
+
 /* Finds the next run of data to send. */
 static void next_run(struct card *card)
 {
@@ -562,6 +598,8 @@ static void next_run(struct card *card)
     card->moved += card->outs;
 }
 
+#endif
+
 static uint8_t first_status(struct card *card)
 {
     card->stage = CARD_SECOND_STATUS;
@@ -577,7 +615,9 @@ static uint8_t first_character(struct card *card)
     card->moved = 0;
     if (ins == GET_DATA || ins == GET_RESPONSE) {
         card->stage = CARD_SENDING;
+#ifdef BY_CHARACTERS
         next_run(card);
+#endif
         return ins;
     }
     if (card->opening[4] == 0) {
@@ -585,23 +625,44 @@ static uint8_t first_character(struct card *card)
         return first_status(card);
     }
     card->stage = CARD_RECEIVING;
+#ifdef BY_CHARACTERS
     card->in = card->came;
     card->ins = card->opening[4];
+#endif
     return ins;
 }
 
+#ifndef BY_CHARACTERS
+
+static uint8_t byte_of(const struct response *response, size_t at)
+{
+    const size_t place = response->sent + at;
+    return place < response->len ? response->front[place]
+                                 : response->entry->value[place - response->len];
+}
+
+#endif
+
 enum turn card_turn(struct card *card, uint8_t *byte)
 {
+#ifdef BY_CHARACTERS
     if (card->outs > 0) {
         *byte = *card->out++;
         if (--card->outs == 0)
             next_run(card);
         return SENDS;
     }
+#endif
     if (!card->live)
         return DONE;
     switch (card->stage) {
     case CARD_SENDING:
+#ifndef BY_CHARACTERS
+        if (card->moved < count_of(card->opening[4])) {
+            *byte = byte_of(&card->sends, card->moved++);
+            return SENDS;
+        }
+#endif
         answer_sent(card);
         *byte = first_status(card);
         return SENDS;
@@ -626,17 +687,7 @@ enum turn card_turn(struct card *card, uint8_t *byte)
     }
 }
 
-void card_free(struct card *card)
-{
-    size_t i;
-    for (i = 0; i < 2 * ENTRY_LIMIT; i++) {
-        if (card->entries[i].value != NULL)
-            wipe(card->entries[i].value, 0, card->entries[i].size);
-        free(card->entries[i].value);
-    }
-    free(card->stored);
-    memset(card, 0, sizeof *card);
-}
+#ifndef BY_CHARACTERS
 
 /* ---- By buffers ------------------------------------------------------------------------------ */
 
@@ -645,21 +696,18 @@ enum turn terminal_send_bytes(struct terminal *terminal, uint8_t *bytes, size_t 
     size_t at = 0;
     enum turn turn = SENDS;
     *n = 0;
-    while (at < room) {
-        if (terminal->outs > 0) {
-            const size_t run = less(terminal->outs, room - at);
-            memcpy(bytes + at, terminal->out, run);
-            terminal->out += run;
-            at += run;
-            if ((terminal->outs -= run) == 0)
-                end_out(terminal);
-        } else {
-            turn = terminal_next(terminal, bytes + at);
-            if (turn != SENDS)
-                break;
-            at++;
-        }
+    if (!terminal->live)
+        return DONE;
+    if (terminal->stage == HOST_MOVING && !terminal->asks) {
+        const size_t run = less(terminal->until - terminal->moved, room);
+        memcpy(bytes, terminal->content + terminal->from + terminal->moved, run);
+        terminal->moved += run;
+        if (terminal->moved == terminal->until)
+            terminal->stage = HOST_AWAITING;
+        at = run;
     }
+    while (at < room && (turn = terminal_next(terminal, bytes + at)) == SENDS)
+        at++;
     *n = at;
     return turn;
 }
@@ -669,20 +717,26 @@ enum fault terminal_receive_bytes(struct terminal *terminal, const uint8_t *byte
 {
     size_t at = 0;
     enum fault fault = NO_FAULT;
+    *taken = 0;
+    if (!terminal->live)
+        return EMPTY;
     while (at < n) {
-        if (terminal->ins > 0) {
-            const size_t run = less(terminal->ins, n - at);
-            memcpy(terminal->in, bytes + at, run);
-            terminal->in += run;
+        if (terminal->stage == HOST_MOVING && terminal->asks) {
+            size_t run = less(terminal->until - terminal->moved, n - at);
+            run = less(run, RESPONSE_LIMIT - terminal->gathered);
+            memcpy(terminal->response + terminal->gathered, bytes + at, run);
+            terminal->gathered += run;
+            terminal->moved += run;
             at += run;
-            if ((terminal->ins -= run) == 0)
-                end_in(terminal);
-        } else {
-            fault = terminal_take(terminal, bytes[at]);
-            if (fault != NO_FAULT)
-                break;
-            at++;
+            if (terminal->moved == terminal->until)
+                terminal->stage = HOST_AWAITING;
+            if (run > 0)
+                continue;
         }
+        fault = terminal_take(terminal, bytes[at]);
+        if (fault != NO_FAULT)
+            break;
+        at++;
     }
     *taken = at;
     return fault;
@@ -692,20 +746,31 @@ enum turn card_send_bytes(struct card *card, uint8_t *bytes, size_t room, size_t
 {
     size_t at = 0;
     enum turn turn = SENDS;
+    *n = 0;
+    if (!card->live)
+        return DONE;
     while (at < room) {
-        if (card->outs > 0) {
-            const size_t run = less(card->outs, room - at);
-            memcpy(bytes + at, card->out, run);
-            card->out += run;
+        if (card->stage == CARD_SENDING) {
+            const struct response *response = &card->sends;
+            size_t run = less(count_of(card->opening[4]) - card->moved, room - at);
+            const size_t place = response->sent + card->moved;
+            size_t front = 0;
+            if (place < response->len) {
+                front = less(response->len - place, run);
+                memcpy(bytes + at, response->front + place, front);
+            }
+            if (run > front)
+                memcpy(bytes + at + front, response->entry->value + place + front - response->len,
+                       run - front);
+            card->moved += run;
             at += run;
-            if ((card->outs -= run) == 0)
-                next_run(card);
-        } else {
-            turn = card_turn(card, bytes + at);
-            if (turn != SENDS)
+            if (at == room)
                 break;
-            at++;
         }
+        turn = card_turn(card, bytes + at);
+        if (turn != SENDS)
+            break;
+        at++;
     }
     *n = at;
     return turn;
@@ -715,21 +780,18 @@ enum fault card_receive_bytes(struct card *card, const uint8_t *bytes, size_t n,
 {
     size_t at = 0;
     enum fault fault = NO_FAULT;
-    while (at < n) {
-        if (card->ins > 0) {
-            const size_t run = less(card->ins, n - at);
-            memcpy(card->in, bytes + at, run);
-            card->in += run;
-            at += run;
-            if ((card->ins -= run) == 0)
-                card->moved = card->opening[4];
-        } else {
-            fault = card_take(card, bytes[at]);
-            if (fault != NO_FAULT)
-                break;
-            at++;
-        }
+    *taken = 0;
+    if (!card->live)
+        return EMPTY;
+    if (card->stage == CARD_RECEIVING) {
+        at = less(card->opening[4] - card->moved, n);
+        memcpy(card->came + card->moved, bytes, at);
+        card->moved += at;
     }
+    while (at < n && (fault = card_take(card, bytes[at])) == NO_FAULT)
+        at++;
     *taken = at;
     return fault;
 }
+
+#endif

@@ -1,7 +1,10 @@
 /* A terminal and a card of data objects written by hand in C: two state machines that hand
- * characters out and take them, one at a time or by buffers. They have duties of the library: they
- * refuse a handle that holds nothing, clear the received data after each TPDU, and wipe values
- * before they free them. They have no plans, and test no pointer for NULL. */
+ * characters out and take them. They have duties of the library: they refuse a handle that holds
+ * nothing, clear the received data after each TPDU, and wipe values before they free them. They
+ * have no plans, and test no pointer for NULL.
+ *
+ * They pass single characters or buffers. With BY_CHARACTERS they pass single characters alone,
+ * faster: they keep where a run of data goes on. */
 #ifndef ENDS_BY_HAND_H
 #define ENDS_BY_HAND_H
 
@@ -50,13 +53,16 @@ struct terminal {
     uint8_t *response;
     size_t gathered;
     size_t capacity;            /* of content */
+#ifdef BY_CHARACTERS
     /* the rest of the data that move in one run: places, and how many characters */
     const uint8_t *out;
     uint8_t *in;
     size_t outs, ins;
+#endif
     bool live;                  /* it is in use */
 };
 
+void terminal_new(struct terminal *terminal);
 enum fault terminal_select(struct terminal *terminal, const uint8_t *aid, size_t n);
 enum fault terminal_get(struct terminal *terminal, uint16_t tag);
 enum fault terminal_put(struct terminal *terminal, uint16_t tag, const uint8_t *value, size_t n);
@@ -111,9 +117,11 @@ struct card {
     uint8_t sw1, sw2;
     uint16_t stored_tag;
     uint8_t *stored;
+#ifdef BY_CHARACTERS
     const uint8_t *out;         /* as of a terminal */
     uint8_t *in;
     size_t outs, ins;
+#endif
     bool live;
 };
 
@@ -121,13 +129,13 @@ void card_begin(struct card *card, const uint8_t *aid, size_t n);
 enum fault card_object(struct card *card, uint16_t tag, const uint8_t *value, size_t n);
 enum fault card_take(struct card *card, uint8_t byte);
 enum turn card_turn(struct card *card, uint8_t *byte);
-/* The same by buffers: characters until the end listens or the buffer is full, and their number. */
+
+/* The same by buffers, without BY_CHARACTERS: characters until the end listens or the buffer is
+ * full, and their number. */
 enum turn terminal_send_bytes(struct terminal *terminal, uint8_t *bytes, size_t room, size_t *n);
 enum fault terminal_receive_bytes(struct terminal *terminal, const uint8_t *bytes, size_t n,
                                   size_t *taken);
 enum turn card_send_bytes(struct card *card, uint8_t *bytes, size_t room, size_t *n);
 enum fault card_receive_bytes(struct card *card, const uint8_t *bytes, size_t n, size_t *taken);
-void terminal_new(struct terminal *terminal);
-void card_free(struct card *card);
 
 #endif

@@ -2,34 +2,45 @@
 
 #include <string.h>
 
-/* The bits of a PCB: an R-block, the place of its N(R); MORE, and the place of N(S) in an I-block.
- * Then two whole PCBs. */
-enum { R = 0x80, NR = 4, MORE = 0x20, NS = 6, IFS_REQUEST = 0xC1, IFS_RESPONSE = 0xE1 };
+/* The bits of a PCB: an R-block, those without N(R) and its reason, the place of N(R); MORE, and the
+ * place of N(S) in an I-block. Then two whole PCBs. */
+enum {
+    R = 0x80, R_BITS = 0xEC, NR = 4, MORE = 0x20, NS = 6, IFS_REQUEST = 0xC1, IFS_RESPONSE = 0xE1
+};
+
+/* The exclusive-or of all bytes, eight at a time. */
+static uint8_t sum_of(const uint8_t *bytes, size_t n)
+{
+    uint64_t words = 0, word;
+    uint8_t rest = 0;
+    for (; n >= sizeof word; n -= sizeof word, bytes += sizeof word) {
+        memcpy(&word, bytes, sizeof word);
+        words ^= word;
+    }
+    for (; n > 0; n--)
+        rest ^= *bytes++;
+    words ^= words >> 32;
+    words ^= words >> 16;
+    words ^= words >> 8;
+    return rest ^ (uint8_t)words;
+}
 
 static size_t write_block(uint8_t *block, unsigned pcb, const uint8_t *info, size_t n)
 {
-    uint8_t sum = (uint8_t)(pcb ^ n);
-    size_t i;
     block[0] = 0;
     block[1] = (uint8_t)pcb;
     block[2] = (uint8_t)n;
-    for (i = 0; i < n; i++) {
-        block[3 + i] = info[i];
-        sum ^= info[i];
-    }
-    block[3 + n] = sum;
+    if (n > 0)
+        memcpy(block + 3, info, n);
+    block[3 + n] = (uint8_t)(pcb ^ n ^ sum_of(info, n));
     return n + 4;
 }
 
 static bool is_valid(const uint8_t *block, size_t n)
 {
-    uint8_t sum = 0;
-    size_t i;
     if (n < 4 || block[0] != 0 || block[2] == 255 || n != block[2] + (size_t)4)
         return false;
-    for (i = 0; i < n; i++)
-        sum ^= block[i];
-    return sum == 0;
+    return sum_of(block, n) == 0;
 }
 
 static size_t write_field(uint8_t *block, unsigned number, const struct t1_buffer *from,
@@ -94,17 +105,18 @@ size_t t1_card_takes(struct t1_card *c, const uint8_t *block, size_t n,
                      uint8_t answer[GT_BLOCK_LIMIT])
 {
     const unsigned pcb = block[1];
-    if (is_valid(block, n) && pcb == IFS_REQUEST) {
+    const bool is_whole = is_valid(block, n);
+    if (is_whole && pcb == IFS_REQUEST) {
         c->ifsd = block[3];
         return write_block(answer, IFS_RESPONSE, block + 3, 1);
     }
-    if (is_valid(block, n) && pcb < R && (pcb >> NS & 1) == c->due && c->until == c->response.n
+    if (is_whole && pcb < R && (pcb >> NS & 1) == c->due && c->until == c->response.n
             && add(&c->command, block + 3, block[2])) {
         c->due ^= 1;
         c->is_answering = false;
         if ((pcb & MORE) == 0)
             return carry_out(c, answer);
-    } else if (is_valid(block, n) && (pcb & 0xEF) == R) {
+    } else if (is_whole && (pcb & R_BITS) == R) {
         const bool is_next = (pcb >> NR & 1) == c->next;
         if (is_next && c->until < c->response.n)
             return send_next(c, answer);
@@ -142,7 +154,7 @@ size_t t1_terminal_takes(struct t1_terminal *t, const uint8_t *answer, size_t n,
         t->from = t->until;
         if ((pcb & MORE) == 0)
             return 0;
-    } else if (is_whole && (pcb & 0xEF) == R && t->from < t->until) {
+    } else if (is_whole && (pcb & R_BITS) == R && t->from < t->until) {
         if ((pcb >> NR & 1) != t->next && t->until < t->command.n) {
             t->next ^= 1;
             t->from = t->until;

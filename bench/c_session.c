@@ -484,7 +484,7 @@ static void carry_out(const struct way *way, const struct load *load)
         need(len == head + load->size && data[len - 1] == CONTENT, "other data");
 }
 
-/* Checks that a session needs the expected number of characters for the operation, if it is heard. */
+/* Checks that a session that is heard needs the expected number of characters. */
 static void check_characters(const struct way *way, const struct load *load)
 {
     size_t count = 0;

@@ -4,7 +4,7 @@
  * have no plans, and test no pointer for NULL.
  *
  * They pass single characters or buffers. With BY_CHARACTERS they pass single characters alone,
- * faster: they keep where a run of data goes on. */
+ * faster: they keep the place in a run of data. */
 #ifndef ENDS_BY_HAND_H
 #define ENDS_BY_HAND_H
 

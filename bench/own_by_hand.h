@@ -39,7 +39,7 @@ struct own_card {
     size_t taken, moved, until;
     uint8_t came[255];
     uint8_t *response;
-    size_t size, from;          /* of the response: its bytes, and how many have gone */
+    size_t size, from;          /* of the response: its bytes, and how many were sent */
     uint16_t status;
     bool is_announced;          /* GET RESPONSE fetches the rest */
     bool is_kept;               /* the same header with P3 `again` gets it */

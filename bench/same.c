@@ -145,7 +145,7 @@ static void begin(void)
              code_of(terminal_put(&hand_terminal, tag, value, n)));
 }
 
-/* What a card may send: mostly what goes on, and with `fills` all that it can. */
+/* What a card may send: mostly what may come next, and with `fills` all that it can. */
 static size_t of_card(uint8_t *bytes, bool fills)
 {
     const uint8_t ins = hand_terminal.header[1];

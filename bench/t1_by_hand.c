@@ -2,8 +2,8 @@
 
 #include <string.h>
 
-/* The bits of a PCB: an R-block, those without N(R) and its reason, the place of N(R); MORE, and the
- * place of N(S) in an I-block. Then two whole PCBs. */
+/* The bits of a PCB: an R-block, those of it without N(R) and its reason, the place of N(R); MORE,
+ * and the place of N(S) in an I-block. Then two whole PCBs. */
 enum {
     R = 0x80, R_BITS = 0xEC, NR = 4, MORE = 0x20, NS = 6, IFS_REQUEST = 0xC1, IFS_RESPONSE = 0xE1
 };

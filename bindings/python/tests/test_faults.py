@@ -7,7 +7,8 @@ from queue import SimpleQueue
 import pytest
 from galliumtoad import (T1, Application, BlockError, Card, Get, Level, OwnCard, Put, Select,
                          Terminal)
-from galliumtoad.faults import ECHO, LINE, T0, Faults, Gone, Mistake, block, read
+from galliumtoad.faults import (ECHO, LINE, T0, Faults, Gone, Mistake, block, head_size, one_first,
+                                read)
 from galliumtoad.simulate import Line, Simulator
 from galliumtoad.trials import AID, VALUE, trials
 
@@ -96,7 +97,7 @@ def with_status(number, status):
 
 # What a struck trial changes of the answers to whole commands, by the number of the command.
 CHANGES = {
-    "select refused": with_status(1, "6A82"),
+    "select refused": {1: b"\x6a\x82", 2: b"\x69\x85"},
     "select warns": with_status(1, "6283"),
     "select without answer": {1: None},
     "select without power": {1: None},
@@ -104,12 +105,13 @@ CHANGES = {
     "select cut": {1: FCI[:-3] + b"\x90\x00"},
     "select with a wrong template": {1: b"\x6e" + FCI[1:] + b"\x90\x00"},
     "select with too much": {1: FCI + b"\x5a\x5a\x5a\x90\x00"},
-    "put refused at the first piece": with_status(2, "6A84"),
-    "put refused in the middle": with_status(3, "6A84"),
-    "put refused at the end": with_status(4, "6581"),
-    "put that must be last": with_status(2, "6883"),
-    "put without chaining": with_status(2, "6884"),
+    "put refused at the first piece": {2: b"\x6a\x84", 5: 345},
+    "put refused in the middle": {3: b"\x6a\x84", 5: 345},
+    "put refused at the end": {4: b"\x65\x81", 5: b"\x68\x83"},
+    "put that must be last": {2: b"\x68\x83", 5: 345},
+    "put without chaining": {2: b"\x68\x84", 5: 345},
     "put warns at the first piece": with_status(2, "6200"),
+    "put warns in the middle": with_status(3, "6200"),
     "put warns at the end": with_status(4, "6300"),
     "put with a reserved status": with_status(4, "9001"),
     "put with a response": with_status(4, "6110"),
@@ -128,29 +130,31 @@ CHANGES = {
     "put with a reset at the end": {4: b"\x69\x85"},
     "put late": {},
     "put with data": {4: b"\x01\x02\x90\x00"},
-    "get refused": with_status(5, "6A88"),
-    "get with an error": with_status(5, "6F00"),
-    "get that may be damaged": with_status(5, "6281"),
-    "get refused at its second part": {6: ANSWERS[5][:-2] + b"\x6f\x00"},
+    "get refused": {5: b"\x6a\x88"},
+    "get with an error": with_status(7, "6F00"),
+    "get that may be damaged": with_status(7, "6281"),
+    "get refused at its second part": {6: b"\x6f\x00"},
     "get cut": {5: FIRST[:-3] + b"\x61\x00"},
     "get without data": {5: b"\x90\x00"},
     "get with too much": {5: FIRST + b"\x5a\x5a\x5a\x61\x00"},
     "get with a wrong tag": {5: b"\x50" + FIRST[1:] + b"\x61\x00"},
     "get with a wrong length": {5: FIRST[:2] + b"\x03" + FIRST[3:] + b"\x61\x00"},
     "get with a wrong bit": {5: FIRST[:12] + bytes([FIRST[12] ^ 0x10]) + FIRST[13:] + b"\x61\x00"},
-    "get of another value": {5: bytes.fromhex("51034142439000")},
+    "get of another value": {5: FIRST[:4] + bytes(it ^ 0xFF for it in FIRST[4:]) + b"\x61\x00"},
+    "get with another length": {5: b"\x6c\x10"},
     "get that asks for a length again and again": {5: b"\x6c\x01"},
     "get without an end": {5: FIRST + b"\x61\x10", 6: bytes(256) + b"\x61\x10",
                            7: bytes(92) + b"\x61\x10"},
     "get without answer": {5: None},
 }
-ANYWHERE = [it for it in trials() if it.places == {"anywhere"}]
+ECHOES = [it.name for it in trials() if ECHO in it.places]
+ANYWHERE = [it for it in trials() if not it.places]
 
 
 def test_each_trial_has_its_row():
     assert set(CHANGES) == {it.name for it in ANYWHERE}
-    assert len(trials()) == len({it.name for it in trials()}) == 60
-    assert all(it.says.endswith(".") and len(it.says) > 60 for it in trials())
+    assert len(trials()) == len({it.name for it in trials()}) == 65
+    assert all(it.clause.endswith(".") and it.does[-1].isalnum() for it in trials())
 
 
 @pytest.mark.parametrize("trial", ANYWHERE, ids=lambda it: it.name)
@@ -158,7 +162,7 @@ def test_whole_commands(trial):
     it, struck = simulator(trial.faults)
     it.is_over.set()  # no waiting
     found, changes = whole(it), CHANGES[trial.name]
-    assert len(struck) == len(trial.read().all) + trial.faults.startswith("every")
+    assert len(struck) == len(trial.read().all)
     for number, expected in changes.items():
         if isinstance(expected, int):  # the size of the stored value
             size = int.from_bytes(found[4][2:4], "big") if found[4][1] == 0x82 else found[4][1]
@@ -192,6 +196,9 @@ AT_T0 = {
     "status before the last data": (4, b"\x90\x00"),
     "byte lost at T=0": (5, b"\xca" + FIRST[:8] + FIRST[9:] + b"\x61\x00"),
     "byte too many at T=0": (5, b"\xca" + FIRST[:8] + b"\x55" + FIRST[8:] + b"\x61\x00"),
+    "put of one byte, and of the rest": (2, b"\x25\xda\x90\x00"),
+    "get of one byte, and of the rest": (
+        5, b"\x35" + FIRST[:1] + b"\xca" + FIRST[1:] + b"\x61\x00"),
 }
 
 
@@ -202,6 +209,10 @@ WHOLE_AT_T0 = [
     ("command 1, wrong tag", 1, b"\xc0\x6e" + FCI[1:] + b"\x90\x00"),
     ("command 1, data AA", 1, b"\xc0\xaa\x90\x00"),
     ("command 2, forget", 2, b"\xda\x90\x00"),
+    ("command 1, refuse 6A82", 0, b"\xa4\x6a\x82"),
+    ("command 2, refuse 6A84", 2, b"\xda\x6a\x84"),
+    ("command 5, refuse 6C10", 5, b"\x6c\x10"),
+    ("command 1 part 2, refuse 6F00", 1, b"\x6f\x00"),
     ("command 2, 6C again", 2, b"\xda\x6c\x01"),
     ("command 2, mute", 2, b"\xdagone"),
     ("command 2, power off", 2, b"\xdagone"),
@@ -226,8 +237,32 @@ def test_characters(fault, place, expected):
 
 
 @pytest.mark.parametrize(
+    ("tpdu", "expected"),
+    [("00DA0050024142", ["", "", "", "", "25", "da", "9000"]),
+     ("00DA00500141", ["", "", "", "", "da", "9000"]),  # INS asks for nothing after the only byte
+     ("00CA005003", ["", "", "", "", "6a88"])],  # a status alone
+)
+def test_the_byte_after_a_complement(tpdu, expected):
+    """It comes alone. The card asks for the rest, if there is any."""
+    it, struck = simulator("command 2, complement", 0)
+    end = End(it, at_t0)
+    for byte in SELECT:
+        end.take_in(bytes([byte]))
+    assert [end.take_in(bytes([byte])).hex() for byte in bytes.fromhex(tpdu)] == expected
+    assert bool(struck) == ("25" in expected)
+
+
+@pytest.mark.parametrize(
+    ("whole", "sent"), [("ca51419000", "3551ca419000"), ("ca519000", "35519000"),
+                        ("ca9000", "ca9000"), ("9000", "9000")])
+def test_data_after_a_complement(whole, sent):
+    assert one_first(bytes.fromhex(whole)).hex() == sent
+
+
+@pytest.mark.parametrize(
     ("fault", "size"),
-    [("command 2, forget", 345), ("command 2, twice", 855), ("command 4, twice", 90), ("", 600)],
+    [("command 2, forget", 345), ("command 2, twice", 855), ("command 4, twice", 90), ("", 600),
+     ("command 2, refuse 9000", 345), ("command 2, complement", 600)],
 )
 def test_what_is_stored_over_a_line(fault, size):
     for t in (0, 1):
@@ -258,19 +293,30 @@ AT_T1 = {
 }
 
 
-BLOCKS = [it for it in trials() if it.places == {"a line at T=1"}]
+BLOCKS = [it for it in trials() if "a line at T=1" in it.places]
 
 
 def test_each_trial_of_a_line_is_tried():
     """By what the line carries: as whole commands, characters, blocks, or an echo."""
-    names = [*CHANGES, *AT_T0, *(it.name for it in BLOCKS), "echo that differs"]
+    names = [*CHANGES, *AT_T0, *(it.name for it in BLOCKS), *ECHOES]
     assert sorted(names) == sorted(it.name for it in trials())
 
 
 OF_BYTES = [f"command 2, {it}" for it in AT_T1 if it.startswith("byte")]
+OF_BLOCKS = [it.faults for it in BLOCKS if ";" not in it.faults]
 
 
-@pytest.mark.parametrize("fault", [*(it.faults for it in BLOCKS), *OF_BYTES])
+def test_a_damaged_block_has_a_wrong_check():
+    it, struck = simulator(*(it.faults for it in BLOCKS if it.faults not in OF_BLOCKS))
+    end = End(it, at_t1)
+    with T1(end.pass_block) as terminal:
+        assert [terminal(command) for command in JOB] == ANSWERS
+    damaged, right = next((one, two) for one, two in zip(end.blocks, end.blocks[1:])
+                          if one[1:2] == two[1:2])
+    assert [a ^ b for a, b in zip(damaged, right) if a != b] == [1, 0xFF] and len(struck) == 2
+
+
+@pytest.mark.parametrize("fault", ["command 3, lrc", *OF_BLOCKS, *OF_BYTES])
 def test_blocks(fault):
     """They come in place of the response of its command, which has one block, and the rest of the
     job is as without a fault, unless the card aborts."""
@@ -423,7 +469,8 @@ def test_when():
         assert len(struck) == sum(found)
         return [at for at, each in enumerate(found, 1) if each]
 
-    assert places("command 3, status 6F00") == [3]
+    assert places("command 3, status 6F00") == places("command 3 part 1, status 6F00") == [3]
+    assert places("command 3 part 2, status 6F00") == []
     assert places("every CA, status 6F00") == [2, 3, 4, 5, 6, 7, 8]
     assert places("INS CA once, status 6F00") == [2]
     assert places("after 5, status 6F00") == [6, 7, 8]
@@ -434,7 +481,7 @@ def test_when():
 
 @pytest.mark.parametrize(
     ("what", "expected"),
-    [("wrong tag", "5f21034a4f459000"), ("cut 2", "5f20034a9000"), ("cut 6", "9000"),
+    [("other value", "5f2003b5b0ba9000"), ("wrong tag", "5f21034a4f459000"), ("cut 2", "5f20034a9000"), ("cut 6", "9000"),
      ("cut 8", "9000"), ("flip 0", "5e20034a4f459000"), ("flip 47", "5f20034a4fc59000"),
      ("flip 48", "5f20034a4f459000"), ("data 01", "019000"), ("add 01", "5f20034a4f45019000")],
 )
@@ -505,6 +552,13 @@ def test_a_change_that_finds_no_data_ends_with_its_command():
     assert answers[1:] == [b"\x90\x00", NAME] and not struck
 
 
+@pytest.mark.parametrize(
+    ("data", "size"), [("5003414243", 2), ("5F2003414243", 3), ("51818000", 3), ("517F", 2),
+                       ("51820258", 4), ("5F2082025800", 5)])
+def test_the_head_of_an_object(data, size):
+    assert head_size(bytes.fromhex(data)) == size
+
+
 @pytest.mark.parametrize(("t", "expected"), [(0, b"\xa4\x61\x0b"), (1, block(0, 0, b"\x61\x0b"))])
 @pytest.mark.parametrize("kind", ["flip", "drop", "insert 55"])
 def test_a_byte_after_the_last_one_does_not_change(kind, t, expected):
@@ -515,7 +569,7 @@ def test_a_byte_after_the_last_one_does_not_change(kind, t, expected):
         assert (found != expected) == len(struck) == (place == len(expected))
 
 
-WRONG = ["command, mute", "command 1", "mute", "every C, mute", "command 1, nonsense", "p 2, mute",
+WRONG = ["command, mute", "command 1 part 0, mute", "command 1, refuse 5000", "command 1", "mute", "every C, mute", "command 1, nonsense", "p 2, mute",
          "command 1, status 5000", "command 1, cut", "command 1, wtx 256", "command 1, byte 0 flip",
          "command 1, byte 1 insert", "command 1, data A", "after x, mute", "command 1, delay 5",
          *(f"p 1, {it}" for it in ("nulls 10000000", "delay 10000000s", "byte 10000000 flip"))]

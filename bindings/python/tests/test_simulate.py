@@ -102,6 +102,19 @@ def test_an_echo_that_differs(at_pty):
     assert card.end()[0].count("wrong echo") == 1
 
 
+def test_an_echo_of_data_that_differs(at_pty):
+    """The first character of data comes back with a wrong bit, and no other."""
+    trial = next(it for it in trials() if it.name == "echo of data that differs")
+    card = at_pty(faults=trial.faults)
+    card.open()
+    assert card.talk(SELECT[:5], 1).hex() == "a4" and card.talk(SELECT[5:], 2).hex() == "610b"
+    assert card.talk(bytes.fromhex("00DA005102"), 1).hex() == "da"
+    os.write(card.line, b"\x41")
+    assert card.read(1) == b"\x40"
+    assert card.talk(b"\x41", 2).hex() == "9000"
+    assert card.end()[0].count("wrong echo of data") == 1
+
+
 def test_inverse_convention(at_pty):
     card = at_pty(TABLE + "atr 3F00\n")
     card.open("03FF")  # as a line in the direct convention shows it

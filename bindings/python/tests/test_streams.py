@@ -3,6 +3,7 @@
 import os
 import subprocess
 import sys
+from pathlib import Path
 
 import pytest
 from room import with_standin
@@ -35,7 +36,11 @@ def test_words_that_are_refused_without_a_stream_for_it(words, redirected):
     assert run(redirected, *words) == (2, "", "")
 
 
-@pytest.mark.parametrize("words", [["--list"], ["--only", "lost at", "--", "true", "{tty}"]])
+JOB = [sys.executable, str(Path(__file__).with_name("planted.py"))]
+JOB += ["{tty}", "{aid}", "{tag}", "{value}", ""]
+
+
+@pytest.mark.parametrize("words", [["--list"], ["--only", "refused", "--", *JOB]])
 def test_a_pipe_that_nobody_reads(words):
     ours, theirs = os.pipe()
     os.close(ours)

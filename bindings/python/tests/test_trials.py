@@ -1,6 +1,7 @@
 """Tests the program `galliumtoad.trials` with terminals that are good, or bad in a known way."""
 
 import contextlib
+import html
 import json
 import resource
 import signal
@@ -15,58 +16,111 @@ from galliumtoad import trials
 from galliumtoad.trials import VALUE, Run, main
 from waiting import wait_until
 
-JOB = [sys.executable, str(Path(__file__).with_name("job.py"))]
+JOB = [sys.executable, str(Path(__file__).with_name("planted.py"))]
 JOB += ["{tty}", "{aid}", "{tag}", "{value}"]
 
 
-def run(tmp_path, only, *ways, limit=20, job=JOB):
+def run(tmp_path, only, mistake="", limit=20):
     """What a terminal makes of one trial, the exit status, and the page."""
     made, begun = tmp_path / "made.json", time.monotonic()
     words = ["--only", only, "--limit", str(limit), "--json", str(made)]
-    status = main([*words, "--html", str(tmp_path / "made.html"), "--", *job, *ways])
-    assert time.monotonic() < begun + limit + 23  # on a busy machine
-    [found] = json.loads(made.read_text())
+    status = main([*words, "--html", str(tmp_path / "made.html"), "--", *JOB, mistake])
+    assert time.monotonic() < begun + 2 * limit + 23  # on a busy machine
+    first, found = json.loads(made.read_text())
+    assert (first["name"], first["verdict"], first["faults"]) == ("no fault", "right", "")
     return found, status, (tmp_path / "made.html").read_text()
 
 
 @pytest.mark.parametrize(
-    ("only", "verdict"),
-    [("put refused in the middle", "told"), ("put without answer at the end", "told"),
-     ("select with a wrong template", "right"), ("nulls before", "right"),
-     ("status before the data", "told"), ("byte lost", "told"), ("get with a wrong tag", "told")],
+    ("only", "mistake", "verdict", "happened"),
+    [("put refused in the middle", "", "told",
+      "exit status 1; printed no value; the card holds no value"),
+     ("put without answer at the end", "", "told",
+      "exit status 1; printed no value; the card holds the value"),
+     ("select with a wrong template", "", "right",
+      "exit status 0; printed the value; the card holds the value"),
+     ("put forgotten in the middle", "", "right",
+      "exit status 0; printed the value that it read; the card holds another value"),
+     ("put forgotten in the middle", "the value printed that was put", "wrong",
+      "exit status 0; printed the value; the card holds another value"),
+     ("nulls before", "NULL not known", "failed",
+      "exit status 1; printed no value; the card holds no value"),
+     ("select without answer", "no limit of time", "hung",
+      "no end; printed no value; the card holds no value")],
 )
-def test_a_good_terminal(tmp_path, only, verdict):
-    found, status, page = run(tmp_path, only)
-    assert found["verdict"] == verdict and status == 0
-    assert f"<td>{verdict}<td>" in page and "ISO/IEC" in page or "EMV" in page
+def test_results(tmp_path, capsys, only, mistake, verdict, happened):
+    """The text shows what the files do."""
+    found, status, page = run(tmp_path, only, mistake, limit=3 if verdict == "hung" else 20)
+    listed = next(it for it in trials.trials() if it.name.startswith(only))
+    assert (found["verdict"], found["happened"]) == (verdict, happened)
+    assert (found["does"], found["clause"]) == (listed.does, listed.clause)
+    assert status == (verdict not in ("right", "told"))
+    said = f"; said: {found['said']}" * bool(found["said"])
+    assert (f"\n{verdict:7}  {found['name']}\n         expected: {listed.does}\n"
+            f"         happened: {happened}{said}\n         clause: {listed.clause}\n"
+            ) in capsys.readouterr().out
+    for cell in (verdict, happened, listed.does, listed.clause):
+        assert f"<td>{html.escape(cell)}" in page
+    assert (f'<tr class="{verdict}">' in page) == (status == 1)
 
 
-@pytest.mark.parametrize(
-    ("only", "way", "verdict", "limit"),
-    [("put forgotten at the end", "blind", "wrong", 20),
-     ("put warns at the end", "again", "told", 20),
-     ("select with a wrong template", "again", "twice", 20),
-     ("select refused", "hangs", "hung", 2), ("select refused", "crashes", "crashed", 20)],
-)
-def test_a_bad_terminal(tmp_path, capsys, only, way, verdict, limit):
-    found, status, _ = run(tmp_path, only, way, limit=limit)
-    assert found["verdict"] == verdict and status == (verdict != "told")
-    assert f"1 {verdict}\n" in capsys.readouterr().out
-
-
-def test_what_no_terminal_sees_does_not_count(tmp_path, capsys):
-    found, status, _ = run(tmp_path, "put forgotten in the middle")
-    assert found["verdict"] == "wrong" and status == 0
-    assert "wrong  *" in capsys.readouterr().out
+def test_a_fault_that_does_not_strike_is_a_failure(tmp_path, capsys):
+    """Unless the list says that a good terminal may miss it, and it succeeded."""
+    status, counts = run(tmp_path, "select with a wrong template", "no template fetched")[1], ""
+    assert status == 0 and "1 right\n* the fault can't strike" in capsys.readouterr().out
+    it = trials.Trial("a", "command 9, mute", "reports", "b", may_miss=True)
+    for it.may_miss, it.status, is_bad in [(True, 0, False), (True, 1, True), (False, 0, True)]:
+        assert it.is_bad == is_bad
 
 
 LEAVES = "setsid sleep 30 & echo 'it says \u00fc\x1b'; exec sleep 30"
 
 
-def test_a_process_that_leaves_its_group_holds_nothing_up(tmp_path):
+def fails(words, limit="2"):
+    """The status of trials with a terminal that fails without a fault."""
+    return main(["--only", "select refused", "--limit", limit, "--", *words, "{tty}"])
+
+
+def test_a_process_that_leaves_its_group_holds_nothing_up(capsys):
     """It keeps the output open, whose bytes may be of any encoding."""
-    found, _, _ = run(tmp_path, "select refused", limit=2, job=["sh", "-c", LEAVES, "{tty}"])
-    assert (found["verdict"], found["said"]) == ("hung", "it says \\xc3\\xbc\\x1b")
+    assert fails(["sh", "-c", LEAVES]) == 2
+    assert capsys.readouterr().err.count("it says \\xc3\\xbc\\x1b\n") == 1
+
+
+@pytest.mark.parametrize(
+    ("job", "said"), [("exit 1", "failed"), ("echo no such option; exit 2", "no such option"),
+                      ("exit 0", "wrong"), ("sleep 30", "hung"), ("kill -9 $$", "crashed")])
+def test_nothing_that_was_tried_is_no_success(capsys, job, said):
+    assert fails(["sh", "-c", job]) == 2
+    found = capsys.readouterr()
+    assert said in found.err and "this is the terminal's output without a fault" in found.err
+    assert not found.out
+
+
+def test_the_commands_are_those_of_the_faults(capsys):
+    """A fault of command 5 strikes a GET DATA."""
+    assert main(["--only", "get refused", "--", *JOB, "six pieces"]) == 2
+    assert "INS of its commands a4 da da da da da da ca, and of" in capsys.readouterr().err
+
+
+@pytest.mark.parametrize("job", ["sleep 300 & echo $! > made; wait",
+                                 "sleep 300 > /dev/null 2>&1 & echo $! > made"])
+def test_processes_of_a_terminal_end_with_it(tmp_path, monkeypatch, job):
+    monkeypatch.chdir(tmp_path)
+    assert fails(["sh", "-c", job]) == 2
+    number = Path("made").read_text().strip()
+    wait_until(lambda: not Path(f"/proc/{number}/exe").exists())
+
+
+def test_a_short_limit(capsys, monkeypatch):
+    """A mute card takes a reader ten seconds, so a shorter limit looks like a terminal's fault. The
+    program says so before it runs."""
+    monkeypatch.setattr(trials, "first", lambda given: print("it runs", file=sys.stderr) or 1 / 0)
+    for limit, says in (("9.9", "with --limit 9.9 a terminal may be hung that waits for a mute "
+                         "card: a reader waits 10 seconds\n"), ("10", "")):
+        with pytest.raises(ZeroDivisionError):
+            main(["--limit", limit, "--", "true", "{reader}"])
+        assert capsys.readouterr().err == f"{says}it runs\n"
 
 
 def test_a_line_that_nobody_reads_holds_nothing_up(monkeypatch):
@@ -74,15 +128,15 @@ def test_a_line_that_nobody_reads_holds_nothing_up(monkeypatch):
     begun, is_read = time.monotonic(), threading.Event()
     monkeypatch.setattr(trials, "serve_pty", lambda run, has_echo, tell: (
         tell("/dev/null"), is_read.wait(60)))
-    assert main(["--only", "select refused", "--", "true", "{tty}"]) == 1
+    assert main(["--only", "select refused", "--", "true", "{tty}"]) == 2
     assert time.monotonic() < begun + 50
     is_read.set()
 
 
-def test_a_terminal_that_prints_without_end_takes_no_memory(tmp_path):
+def test_a_terminal_that_prints_without_end_takes_no_memory(capsys):
     before = resource.getrusage(resource.RUSAGE_SELF).ru_maxrss
-    found, _, _ = run(tmp_path, "select refused", limit=2, job=["yes", "{tty}"])
-    assert found["verdict"] == "hung"
+    assert fails(["yes"]) == 2
+    assert "hung" in (said := capsys.readouterr().err) and len(said) < 3000
     assert resource.getrusage(resource.RUSAGE_SELF).ru_maxrss < before + (1 << 18)
 
 
@@ -111,25 +165,54 @@ def test_a_file_of_results_is_opened_before_the_run(tmp_path, monkeypatch, capsy
     assert "Is a directory" in capsys.readouterr().err
 
 
-def test_verdicts():
-    trial = next(it for it in trials.trials() if it.name == "select late")
-    for value, output, is_struck, verdict in [
-        (VALUE, VALUE.hex(), True, "right"), (VALUE, VALUE.hex(" ").upper(), True, "right"),
-        (VALUE, VALUE.hex(), False, "unmet"), (VALUE, VALUE[:-1].hex(), True, "wrong"),
-        (VALUE[:-1], VALUE.hex(), True, "wrong"), (VALUE, "", True, "wrong"),
-    ]:
-        it = Run(trial, 0)
-        it.carry_out(bytes.fromhex("00A4040007A0000000031010"))
-        pieces = [value[at : at + 255] for at in range(0, len(value), 255)]
-        for at, piece in enumerate(pieces, 1):
-            cla = 0 if at == len(pieces) else 16
-            it.carry_out(bytes([cla, 0xDA, 0, 0x51, len(piece)]) + piece)
-        it.struck += ["struck"] * is_struck
-        assert it.verdict(0, output) == verdict
-        assert it.verdict(None, output) == "hung" and it.verdict(-11, output) == "crashed"
-        assert it.verdict(1, output) == ("told" if is_struck else "unmet")
-        assert it.verdict(139, output) == it.verdict(128 + signal.NSIG - 1, output) == "crashed"
-        assert it.verdict(255, output) == it.verdict(1, output)  # as programs of Perl end
+def with_put(does, *pieces):
+    """A run whose card took a put in these pieces, and answered a get."""
+    it = Run(trials.Trial("a", "command 9, mute", does, "b"), 0)
+    it.whole(bytes.fromhex("00A4040007A0000000031010"))
+    for at, piece in enumerate(pieces, 1):
+        it.whole(bytes([0 if at == len(pieces) else 16, 0xDA, 0, 0x51, len(piece)]) + piece)
+    it.commands.clear()
+    answer = it.whole(bytes.fromhex("00CA005100"))
+    while answer[-2] in (0x61, 0x6C):
+        header = "00C00000" if answer[-2] == 0x61 else "00CA0051"
+        answer = it.whole(bytes.fromhex(header) + answer[-1:])
+    return it
+
+
+OWN, FIRST, LAST = [VALUE[:255], VALUE[255:510], VALUE[510:]], VALUE[:255], VALUE[510:]
+OTHERS = [[b"A"], [FIRST], [LAST], [FIRST, *OWN]]  # what it stored is in the last one
+EITHER, PRINTS = "succeeds or reports", "prints what it read"
+
+
+@pytest.mark.parametrize(
+    ("does", "pieces", "output", "verdict"),
+    [("reports", OWN, VALUE, "wrong"), ("reports", OWN, b"", "wrong"),
+     *((does, *row) for does in ("succeeds", EITHER) for row in [
+         (OWN, VALUE, "right"), (OWN, VALUE[:-1], "wrong"), (OWN, b"", "wrong"),
+         (OWN[:2], VALUE, "wrong"), (OWN[:2], b"".join(OWN[:2]), "wrong")]),
+     *((PRINTS, pieces, b"".join(pieces), "right") for pieces in [OWN, *OTHERS]),
+     *((PRINTS, pieces, output, "wrong") for output in (VALUE, b"") for pieces in OTHERS),
+     (PRINTS, [FIRST], FIRST + VALUE, "wrong"), (PRINTS, OWN, b"", "wrong"),
+     (PRINTS, [FIRST, *OWN], FIRST + VALUE + VALUE, "wrong")],
+    ids=lambda it: it if isinstance(it, str) else str(len(it)),
+)
+def test_verdicts(does, pieces, output, verdict):
+    it = with_put(does, *pieces)
+    it.struck.append("struck")
+    for text in (output.hex(), f"it is\n{output.hex(' ').upper()}"):
+        assert it.judge(0, text)[0] == verdict
+        assert it.judge(None, text)[0] == "hung" and it.judge(-11, text)[0] == "crashed"
+        assert it.judge(139, text)[0] == it.judge(128 + signal.NSIG - 1, text)[0] == "crashed"
+        reported = "failed" if does == "succeeds" else "told"
+        assert it.judge(1, text)[0] == it.judge(255, text)[0] == reported  # 255 as in Perl
+
+
+@pytest.mark.parametrize("does", ["reports", "succeeds", EITHER, PRINTS])
+def test_a_fault_that_did_not_strike(does):
+    """Unless the terminal lied."""
+    it = with_put(does, *OWN)
+    assert [it.judge(status, VALUE.hex())[0] for status in (0, 1)] == ["unmet", "unmet"]
+    assert it.judge(0, "")[0] == "wrong"
 
 
 PIECE, OTHER, GET, SELECT = "10DA00510141", "10DA00510142", "00CA005100", "00A4040000"
@@ -148,16 +231,19 @@ def test_what_was_sent_again(commands, verdict):
     it.struck.append("struck")
     for command in commands:
         it.carried_out(bytes.fromhex(command))
-    assert it.verdict(1, "") == verdict
+    assert it.judge(1, "")[0] == verdict
 
 
 def test_what_can_be_tried():
-    """A reader gets whole commands, a line all."""
-    parsed = trials.parser().parse_args(["--", "x", "{reader}"])
-    assert len(trials.possible(parsed)) == 45
-    parsed = trials.parser().parse_args(["--", "x", "{tty}"])
-    assert len(trials.possible(parsed)) == 60
-    assert {Run(it, 1).atr[1] for it in trials.possible(parsed)} == {0, 0x80}
+    """A reader gets whole commands; a line also what its protocol has."""
+    for words, count in [(["{reader}"], 47), (["{tty}"], 58)]:
+        for protocol in ("0", "1"):
+            parsed = trials.parser().parse_args(["--protocol", protocol, "--", "x", *words])
+            found = trials.possible(parsed)
+            expected = count if words == ["{reader}"] or protocol == "0" else 54
+            assert len(found) == expected
+            assert {Run(it, parsed.protocol).atr[1] for it in found} == {0x80 * int(protocol)}
+    assert trials.parser().parse_args(["x"]).protocol == "0"
 
 
 def test_other_words(capsys):
@@ -168,7 +254,7 @@ def test_other_words(capsys):
     for limit in ("0.09", "86401"):
         assert main(["--limit", limit, "--", "true", "{tty}"]) == 2
         assert f"--limit is {limit}" in capsys.readouterr().err.replace(".0,", ",")
-    assert main(["--list"]) == 0 and capsys.readouterr().out.count("\n\n") == 59
+    assert main(["--list"]) == 0 and capsys.readouterr().out.count("\n\n") == 64
     with open("/dev/full", "w") as full, contextlib.redirect_stdout(full):
         assert main(["--list"]) == 2 and "No space left" in capsys.readouterr().err
     assert main(["--vpcd", "localhost:1", "--", "{reader}"]) == 2

@@ -20,25 +20,28 @@ FORMS: dict[str, tuple[str, Callable[[str], Any]]] = {
     "SECONDS": (r"[0-9]{1,7}(?:\.[0-9]+)?s", lambda text: float(text[:-1])),
 }
 # When a fault strikes: at this command, or at what fetches its response.
-WHENS: dict[str, Callable[[Any, Any], Any]] = {
-    "command N": lambda now, number: now.is_next and now.count == number,
+WHENS: dict[str, Callable[..., Any]] = {
+    "command N": lambda now, number: (now.count, now.part) == (number, 1),
+    "command N part PLACE": lambda now, number, part: (now.count, now.part) == (number, part),
     **dict.fromkeys(["every XX", "INS XX once"], lambda now, ins: now.ins == ins),
     "after N": lambda now, number: now.count > number,
     "p CHANCE": lambda now, chance: now.chance() < chance,
 }
-DATA = ("data HEX", "cut N", "add HEX", "flip N", "wrong tag")
+DATA = ("data HEX", "cut N", "add HEX", "flip N", "wrong tag", "other value")
 # Where a fault can happen, and what it makes of what the card sends, or True for anything else.
 KINDS: dict[str, tuple[str, Callable[..., Any]]] = {
     "data HEX": (ANYWHERE, lambda data, new: new),
     "cut N": (ANYWHERE, lambda data, count: data[: max(len(data) - count, 0)]),
     "add HEX": (ANYWHERE, lambda data, new: data + new),
     "flip N": (ANYWHERE, lambda data, bit: flipped(data, bit)),
-    # the last byte of the first tag, which has one or two
-    "wrong tag": (ANYWHERE, lambda data: flipped(data, 8 * all(it & 31 == 31 for it in data[:1]))),
+    "wrong tag": (ANYWHERE, lambda data: flipped(data, 8 * tag_size(data) - 8)),
+    "other value": (ANYWHERE, lambda data: (
+        flipped(data, *range(8 * head_size(data), 8 * len(data))))),
     "status SW": (ANYWHERE, lambda status, new: new),
+    "refuse SW": (ANYWHERE, lambda _, status: status), "forget": (ANYWHERE, lambda _: OK),
     "delay SECONDS": (ANYWHERE, lambda pauses, seconds: [*pauses, seconds]),
-    **dict.fromkeys(["mute", "power off", "reset", "forget", "twice", "6C again",
-                     "61 without end"], (ANYWHERE, lambda _: True)),
+    **dict.fromkeys(["mute", "power off", "reset", "twice", "6C again", "61 without end"],
+                    (ANYWHERE, lambda _: True)),
     "byte PLACE flip": (LINE, lambda sent, at: flipped(sent, 8 * at - 8)),
     "byte PLACE drop": (LINE, lambda sent, at: sent[: at - 1] + sent[at:]),
     "byte PLACE insert XX": (LINE, lambda sent, at, new: (
@@ -47,6 +50,8 @@ KINDS: dict[str, tuple[str, Callable[..., Any]]] = {
     # its first byte is a procedure byte, unless it is one of a status
     "procedure XX": (T0, lambda sent, new: new + sent[sent.hex()[:1] not in "69" :]),
     "nulls N": (T0, lambda sent, count: b"\x60" * count + sent),
+    # without bytes to send the card takes data, the first byte alone
+    "complement": (T0, lambda sent: one_first(sent) if sent else True),
     # the card's requests (ISO/IEC 7816-3, 11.3.2.2)
     "wtx BYTE": (T1, lambda sent, value: sent or block(0, 0xC3, bytes([value]))),
     "ifs BYTE": (T1, lambda sent, value: sent or block(0, 0xC1, bytes([value]))),
@@ -54,7 +59,7 @@ KINDS: dict[str, tuple[str, Callable[..., Any]]] = {
     "nad": (T1, lambda sent: flipped(sent[:-1], 0, 5) + flipped(sent[-1:], 0, 5)),
     "lrc": (T1, lambda sent: sent[:-1] + flipped(sent[-1:], *range(8))),
     "double": (T1, lambda sent: sent + sent), "lose": (T1, lambda sent: b""),
-    "wrong echo": (ECHO, lambda sent: flipped(sent, 0)),
+    **dict.fromkeys(["wrong echo", "wrong echo of data"], (ECHO, lambda sent: flipped(sent, 0))),
 }
 
 
@@ -105,7 +110,7 @@ class Fault(NamedTuple):
     """A line of a file: its place and text, and what it is in the tables above."""
     text: str
     when: str
-    number: Any
+    numbers: list[Any]
     kind: str
     values: list[Any]
     place: str
@@ -135,9 +140,9 @@ def read(text: str, name: str = "faults") -> list[Fault]:
         if words[:1] not in ("", "#"):
             (at, _, does), place = words.partition(","), f"{name}:{line}: "
             wrong = f"{place}not WHEN, WHAT of a fault: {words}\n"
-            when, [number] = matched(WHENS, at, f"{wrong}WHEN")
+            when, numbers = matched(WHENS, at, f"{wrong}WHEN")
             kind, values = matched(KINDS, does, f"{wrong}WHAT")
-            found.append(Fault(place + words, when, number, kind, values, KINDS[kind][0]))
+            found.append(Fault(place + words, when, numbers, kind, values, KINDS[kind][0]))
     return found
 
 
@@ -153,6 +158,23 @@ def flipped(data: bytes, *bits: int) -> bytes:
     return (int.from_bytes(data, "little") ^ mask).to_bytes(len(data), "little")
 
 
+def tag_size(data: bytes) -> int:
+    """How many bytes the tag of an object takes: one or two."""
+    return 1 + all(it & 31 == 31 for it in data[:1])
+
+
+def head_size(data: bytes) -> int:
+    """How many bytes the tag and the length of an object take."""
+    size = tag_size(data) + 1
+    return size + sum(it & 127 for it in data[size - 1 : size] if it > 127)
+
+
+def one_first(sent: bytes) -> bytes:
+    """INS, data and a status, but the first byte of data follows the complement of INS."""
+    ins, data = sent[:1], sent[1:-2]
+    return flipped(ins, *range(8)) + data[:1] + ins * (len(data) > 1) + sent[2:] if data else sent
+
+
 class Faults:
     """Which faults strike, a line each for `tell`. None does, and no command counts, before one
     that begins with the bytes `since`, as far as they are known. GET RESPONSE, or again after 6CXX,
@@ -162,7 +184,7 @@ class Faults:
                  tell: Callable[[str], None] = print, since: bytes = b"") -> None:
         self.all, self.tell, self.since = list(found), tell, since
         self.chance = random.Random(seed).random
-        self.count, self.header, self.ins, self.is_next, self.was_6c = 0, b"", b"", False, False
+        self.count, self.part, self.header, self.ins, self.was_6c = 0, 0, b"", b"", False
         self.due, self.struck, self.pauses = list[Fault](), list[str](), list[float]()
         self.gone: Optional[Gone] = None  # from then on the card is silent until a reset
 
@@ -179,13 +201,14 @@ class Faults:
             self.due = []
             return None
         self.since, self.ins, le = b"", header[1:2], sum(header[4:5])
-        self.is_next = self.ins != GET_RESPONSE and (header[:4] != self.header or not self.was_6c)
-        if self.is_next:
-            self.count, self.header, self.due, self.struck = self.count + 1, header[:4], [], []
+        self.part += 1
+        if self.ins != GET_RESPONSE and (header[:4] != self.header or not self.was_6c):
+            self.count, self.part, self.header = self.count + 1, 1, header[:4]
+            self.due, self.struck = [], []
         self.due = [it for it in self.due if it.kind in DATA or it.place == LINE]
-        self.due += [f for f in self.all if f not in self.due and WHENS[f.when](self, f.number)]
-        if self.edited(False, "forget"):
-            return OK
+        self.due += [f for f in self.all if f not in self.due and WHENS[f.when](self, *f.numbers)]
+        if answer := self.edited(b"", "forget", "refuse SW"):
+            return bytes(answer)
         if self.edited(False, "6C again") or "6C again" in self.struck:
             return bytes([0x6C, le % 255 + 1])  # never the length that was asked for
         if "61 without end" in self.struck and self.ins == GET_RESPONSE:

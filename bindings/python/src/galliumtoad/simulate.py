@@ -148,7 +148,8 @@ class Line(Application):
 
     def write(self, data: bytes) -> None:
         """Sends the echo of the last character, if there is one, and then characters."""
-        echo, self.heard = self.of.faults.edited(self.heard, ECHO) * self.has_echo, b""
+        kind = "wrong echo" if data else "wrong echo of data"
+        echo, self.heard = self.of.faults.edited(self.heard, kind) * self.has_echo, b""
         os.write(self.fd, echo.translate(self.turned))
         while self.of.faults.pauses:
             self.of.is_over.wait(self.of.faults.pauses.pop())
@@ -185,9 +186,13 @@ class Line(Application):
         self.of.level = Level.TPDU
         def more() -> bytes:
             """Takes the data of a TPDU, after a procedure byte."""
+            first = b""
+            if header[4] > 1 and self.of.faults.edited(False, "complement"):
+                self.write(bytes([header[1] ^ 0xFF]))
+                first = self.take(lambda it: 1)
             self.begun = self.of.faults.edited(header[1:2], T0, LINE)
             self.write(self.begun)
-            return self.take(lambda it: header[4])
+            return first + self.take(lambda it: header[4] - len(first))
         while True:
             header, self.begun = self.take(lambda it: 5), b""
             answer = self.of.whole(header, more)

@@ -1,6 +1,7 @@
-"""Judges terminals by a job with a card, once for each fault in `trials.txt`."""
+"""Judges terminals by a job with a card, without a fault and with each of `trials.txt`."""
 
 import argparse
+import contextlib
 import json
 import os
 import re
@@ -13,123 +14,206 @@ from pathlib import Path
 from queue import Empty, SimpleQueue
 from select import select
 from subprocess import DEVNULL, PIPE, STDOUT, Popen, TimeoutExpired
-from typing import Any, Optional
+from typing import Any, Callable, Optional
 
-from . import Card
+from . import Card, Error, objects
 from .faults import ANYWHERE, CONTROLS, T1, Faults, Mistake, number, program, read
 from .pages import begin, table
-from .simulate import VPCD, Simulator, connected, serve_pty, talk_vpcd
+from .simulate import MUTE_FOR, VPCD, Simulator, connected, serve_pty, talk_vpcd
 
 AID, TAG = bytes.fromhex("A0000000031010"), 0x51
 VALUE = bytes(it % 251 for it in range(600))  # so that no two pieces of it are equal
 SELECT = bytes([0x00, 0xA4, 0x04, 0x00, len(AID)]) + AID
+JOB = bytes.fromhex("A4DADADACA")  # INS of its commands
 # In the hexadecimal lines of commands: a piece of a put, no SELECT, and the same piece.
 TWICE = re.compile(r"^(..da.*)\n(?:(?!..a4).*\n)*\1$", re.M)
 ATRS = [bytes.fromhex("3B00"), bytes.fromhex("3B800181")]  # T=0, T=1
 AWAIT_READER, GONE_AFTER = 60.0, 1.0  # seconds until a reader should have seen a card come, and go
-BAD = ("wrong", "twice", "hung", "crashed")
-VERDICTS = ("right", "told", "unmet", *BAD)
-HEAD = ["Trial", "Fault", "Verdict", "Last line", "What a good terminal does"]
-STAR = "* no terminal can see this fault, so it does not count"
+BAD = ("unmet", "wrong", "twice", "failed", "hung", "crashed")
+VERDICTS = ("right", "told", *BAD)
+# What a good terminal does, as its line in the list begins, and which verdicts that brings.
+PRINTS = "prints what it read"
+DOES = {"reports": ["told"], "succeeds": ["right"], "succeeds or reports": ["right", "told"],
+        PRINTS: ["right", "told"]}
+HEAD = ["Trial", "Fault", "Verdict", "What happened", "Last line", "What a good terminal does",
+        "Clause"]
+STAR = "* the fault can't strike this terminal, as the list says, so it does not count"
 WORDS = {"aid": AID.hex().upper(), "tag": f"{TAG:02X}", "value": VALUE.hex().upper()}
-USAGE = """TERMINAL selects {aid}, puts {value} under {tag} in commands of up to 255 bytes, gets
-{tag}, and prints that value in hexadecimal. It has {reader}, for a reader of PC/SC, or {tty}, for a
-serial line. Its exit status is 0 if all of that succeeded."""
+USAGE = """TERMINAL selects {aid}, puts {value} under {tag} in pieces of 255, 255 and 90 bytes, gets
+{tag}, and prints the value that it read in hexadecimal. It has {reader}, for a reader of PC/SC, or
+{tty}, for a serial line. Its exit status is 0 if all of that succeeded. The first trial has no
+fault. A terminal that fails it is not tried further."""
 
 
 @dataclass
 class Trial:
-    """A fault of the list: its lines, its clause and what a good terminal does. If `is_unseen`, no
-    terminal can see it. The rest is what a terminal made of it, `unmet` if it did not strike."""
+    """A fault of the list: its lines, what a good terminal does, and the clause. Some terminals
+    `may_miss` it. The rest is what a terminal made of it, `unmet` if it did not strike."""
     name: str
     faults: str
-    says: str
-    is_unseen: bool
+    does: str
+    clause: str
+    may_miss: bool = False
     verdict: str = "unmet"
     status: Optional[int] = None
     seconds: float = 0.0
+    happened: str = ""
     said: str = ""
 
     def read(self, since: bytes = b"") -> Faults:
         return Faults(read(self.faults.replace("; ", "\n"), self.name), since=since)
 
     @property
-    def places(self) -> set[str]:  # where its faults can happen
-        return {it.place for it in self.read().all}
+    def places(self) -> set[str]:  # where its faults can happen, if not anywhere
+        return {it.place for it in self.read().all} - {ANYWHERE}
+
+    @property
+    def expected(self) -> list[str]:
+        return DOES[max((it for it in DOES if self.does.startswith(it)), key=len)]
+
+    @property
+    def is_missed(self) -> bool:
+        return self.may_miss and self.verdict == "unmet" and self.status == 0
+
+    @property
+    def is_bad(self) -> bool:
+        return self.verdict in BAD and not self.is_missed
 
 
 def trials() -> list[Trial]:
     """Reads the list.
 
     >>> len(trials()), trials()[2].name, trials()[2].faults
-    (60, 'select without answer', 'command 1, mute')"""
+    (65, 'select without answer', 'command 1, mute')"""
     text = Path(__file__).with_name("trials.txt").read_text("utf-8")
-    found = re.findall(r"^([^#\n].*?)(, unseen)?\n(.+)\n(.+)$", text, re.M)
-    return [Trial(name, faults, says, bool(unseen)) for name, unseen, faults, says in found]
+    found = re.findall(r"^([^#\n].*?)(, may miss)?\n(.+)\n(.+)\n(.+)$", text, re.M)
+    return [Trial(name, faults, does, clause, bool(misses))
+            for name, misses, faults, does, clause in found]
 
 
 class Run(Simulator):
-    """The card of one trial, the faults that struck, and the commands that it has carried out."""
+    """The card of one trial, the faults that struck, the commands that it has carried out, and the
+    data that it sent for the last GET DATA."""
 
     def __init__(self, trial: Trial, protocol: int) -> None:
-        self.table, self.struck, self.commands = Card({AID: {}}), list[str](), list[bytes]()
-        t = T1 in trial.places if trial.places != {ANYWHERE} else protocol
-        super().__init__(self.table, ATRS[t], trial.read(SELECT))
+        self.trial, self.table, self.sent = trial, Card({AID: {}}), b""
+        self.struck, self.commands = list[str](), list[bytes]()
+        super().__init__(self.table, ATRS[protocol], trial.read(SELECT))
         self.carried_out, self.faults.tell = self.commands.append, self.struck.append
 
-    def verdict(self, status: Optional[int], output: str) -> str:
-        """Judges an exit status, or None for a terminal that was still running after the limit. A
-        success counts only if the card holds the value and the output contains it."""
-        held = {it.tag: it.value for it in self.table.entries(AID)}
-        printed = WORDS["value"] in re.sub(r"[^0-9A-F]", "", output.upper())
+    def whole(self, data: bytes, more: Optional[Callable[[], bytes]] = None) -> bytes:
+        answer = super().whole(data, more)
+        if data[1:2] in (b"\xC0", b"\xCA"):
+            self.sent = self.sent * (data[1] == 0xC0) + answer[:-2]
+        return answer
+
+    def values(self) -> tuple[bytes, bytes]:
+        """The value on the card, and that of the object which the card has sent."""
+        sent = b""
+        with contextlib.suppress(Error):
+            sent = b"".join(it.value for it in objects(self.sent)[:1])
+        return b"".join(it.value for it in self.table.entries(AID) if it.tag == TAG), sent
+
+    def judge(self, status: Optional[int], output: str) -> tuple[str, str]:
+        """Returns the verdict, and what happened. The status is None for a terminal that was still
+        running after the limit. A success counts only if the card holds the value and the output
+        contains it, or if the output contains what the card has sent in its place."""
+        printed, own = re.sub(r"[^0-9A-F]", "", output.upper()), WORDS["value"]
+        held, sent = (it.hex().upper() for it in self.values())
+        has_own, has_sent = own in printed, bool(sent) and sent in printed
+        is_true = held == own and has_own
+        if self.trial.does.startswith(PRINTS):  # what it read may contain its own value
+            is_true = has_sent and own not in (printed.replace(sent, "-") if own in sent else printed)
+        what = "the value" if has_own else "the value that it read" if has_sent else "no value"
+        on_card = "the value" if held == own else "another value" if held else "no value"
+        end = "no end" if status is None else f"exit status {status}"
+        return self.verdict(status, is_true), f"{end}; printed {what}; the card holds {on_card}"
+
+    def verdict(self, status: Optional[int], is_true: bool) -> str:
         if status is None:
             return "hung"
         if status < 0 or 128 < status < 128 + signal.NSIG:  # a shell adds 128 to a signal
             return "crashed"
-        if status == 0 and not (held.get(TAG) == VALUE and printed):
+        if status == 0 and not is_true:
             return "wrong"
         if TWICE.search("\n".join(it.hex() for it in self.commands)):
             return "twice"
-        return "told" if status and self.struck else "right" if self.struck else "unmet"
+        if self.trial.faults and not self.struck:
+            return "unmet"
+        found, other = ("told", "failed") if status else ("right", "wrong")
+        return found if found in self.trial.expected else other
 
 
-def tried(trial: Trial, given: argparse.Namespace) -> None:
-    """Lets a terminal do the job with this fault, once its card is there. Raises `OSError`."""
-    run, begun, ready = Run(trial, int(given.protocol)), time.monotonic(), SimpleQueue[str]()
-    program: Any = None
+def ended(trial: Trial, run: Run, name: str, given: argparse.Namespace) -> bytes:
+    """Runs the terminal, with the line of this name, up to the limit. Sets its exit status, if it
+    has one. Returns the last megabyte of its output."""
+    told = {**WORDS, "reader": given.reader, "tty": name}
+    words = [re.sub(r"\{(\w+)\}", lambda it: told.get(str(it[1]), str(it[0])), word)
+             for word in given.terminal]
+    program: Any = Popen(words, 0, stdin=DEVNULL, stdout=PIPE, stderr=STDOUT,
+                         start_new_session=True)
+    end, out, output, it = time.monotonic() + given.limit, program.stdout, b"", b"begun"
+    try:
+        while it and (left := end - time.monotonic()) > 0 and select([out], [], [], left)[0]:
+            output = (output + (it := out.read(65536)))[-(1 << 20) :]  # it may print without end
+        with contextlib.suppress(TimeoutExpired):
+            trial.status = program.wait(max(end - time.monotonic(), 0))
+    finally:
+        with contextlib.suppress(ProcessLookupError):
+            os.killpg(program.pid, signal.SIGKILL)  # also processes that it has left behind
+        program.wait()
+    return output
+
+
+def tried(trial: Trial, given: argparse.Namespace) -> tuple[Run, str]:
+    """Lets a terminal do the job with this fault, once its card is there. Returns the card, and the
+    output. Raises `OSError`."""
+    run, begun, ready = Run(trial, given.protocol), time.monotonic(), SimpleQueue[str]()
     line = None if given.is_line else connected(given.vpcd)
     thread = threading.Thread(daemon=True, target=lambda: (
         talk_vpcd(run, line, ready.put) if line else serve_pty(run, True, ready.put)))
     thread.start()
     try:
-        told = {**WORDS, "reader": given.reader, "tty": ready.get(timeout=AWAIT_READER)}
-        words = [re.sub(r"\{(\w+)\}", lambda it: told.get(str(it[1]), str(it[0])), word)
-                 for word in given.terminal]
-        program = Popen(words, 0, stdin=DEVNULL, stdout=PIPE, stderr=STDOUT, start_new_session=True)
-        end, out, output, it = time.monotonic() + given.limit, program.stdout, b"", b"begun"
-        while it and (left := end - time.monotonic()) > 0 and select([out], [], [], left)[0]:
-            output = (output + (it := out.read(65536)))[-(1 << 20) :]  # it may print without end
-        trial.status = program.wait(max(end - time.monotonic(), 0))
+        output = ended(trial, run, ready.get(timeout=AWAIT_READER), given)
     except Empty:
         raise OSError(f"the reader at {given.vpcd} does not see the card") from None
-    except TimeoutExpired:
-        pass
     finally:
-        if program and program.returncode is None:
-            os.killpg(program.pid, signal.SIGKILL)
         trial.seconds = round(time.monotonic() - begun, 1)
         run.is_over.set()
         thread.join(5)  # it may write to a line that nobody reads
         time.sleep(GONE_AFTER if line else 0)
     text = output.decode("ascii", "backslashreplace")
-    lines = [it for it in text.splitlines() if WORDS["value"] not in it] or [""]
-    trial.verdict, trial.said = run.verdict(trial.status, text), lines[-1].translate(CONTROLS)[:200]
+    lines = [it for it in text.splitlines() if not re.search("[0-9A-Fa-f ]{180}", it)] or [""]
+    trial.verdict, trial.happened = run.judge(trial.status, text)
+    trial.said = lines[-1].translate(CONTROLS)[:200]
+    return run, text
+
+
+def first(given: argparse.Namespace) -> Trial:
+    """Tries the terminal without a fault. Raises `Mistake` if it fails: then no fault would say
+    anything of it."""
+    trial = Trial("no fault", "", "succeeds", "A terminal that fails without a fault is not tried.")
+    run, text = tried(trial, given)
+    ins = bytes(it[1] for it in run.commands if it[1] != 0xC0)
+    if trial.verdict != "right" or JOB not in ins:
+        raise Mistake(f"{text[-2000:]}\nthis is the terminal's output without a fault: "
+                      f"{trial.verdict}; {trial.happened}; INS of its commands {ins.hex(' ')}, "
+                      f"and of the job {JOB.hex(' ')}")
+    return trial
+
+
+def as_text(it: Trial) -> str:
+    """The lines of a trial."""
+    return (f"{it.verdict + '*' * it.is_missed:7}  {it.name}\n"
+            f"         expected: {it.does}\n"
+            f"         happened: {it.happened}{'; said: ' * bool(it.said)}{it.said}\n"
+            f"         clause: {it.clause}")
 
 
 def as_html(results: list[Trial]) -> str:
     """The results as a page."""
-    rows = [(it.verdict * (not it.is_unseen), [
-        it.name, it.faults, it.verdict + "*" * it.is_unseen, it.said, it.says]) for it in results]
+    rows = [(it.verdict * it.is_bad, [it.name, it.faults, it.verdict + "*" * it.is_missed,
+                                      it.happened, it.said, it.does, it.clause]) for it in results]
     return f"{begin('Trials')}{table(HEAD, rows, has_ends=False)}<p>{STAR}</html>\n"
 
 
@@ -138,7 +222,7 @@ def parser() -> argparse.ArgumentParser:
                                  description="Lets a terminal do a job with cards that misbehave.")
     it.add_argument("--vpcd", default=VPCD, metavar="HOST:PORT", help=f"for {{reader}}; {VPCD}")
     it.add_argument("--reader", default="Virtual PCD 00 00", help="{reader}; else %(default)s")
-    it.add_argument("--protocol", choices=["0", "1"], default="0", help="T if both fit; default 0")
+    it.add_argument("--protocol", choices=["0", "1"], default="0", help="T of the cards; else 0")
     it.add_argument("--limit", type=number, default=60, metavar="S",
                     help="seconds for a job, 0.1 to 86400; without it 60")
     it.add_argument("--only", metavar="WORD", default="", help="runs those with WORD in their name")
@@ -151,13 +235,16 @@ def parser() -> argparse.ArgumentParser:
 
 def possible(given: argparse.Namespace) -> list[Trial]:
     """The trials that can happen where the terminal is. Raises `Mistake`."""
-    given.is_line = any("{tty}" in it for it in given.terminal)
+    given.is_line, given.protocol = any("{tty}" in it for it in given.terminal), int(given.protocol)
     if not given.is_line and not any("{reader}" in it for it in given.terminal):
         raise Mistake("the command line of the terminal has neither {reader} nor {tty}")
     if not 0.1 <= given.limit <= 86400:
         raise Mistake(f"--limit is {given.limit}, not from 0.1 to 86400 seconds")
-    return [it for it in trials() if given.only in it.name and (
-        given.is_line or it.places == {ANYWHERE})]
+    found = [it for it in trials() if given.only in it.name and (
+        not it.places or given.is_line and (T1 in it.places) == given.protocol)]
+    if not found:
+        raise Mistake(f"no trial that can happen there has {given.only!r} in its name")
+    return found
 
 
 @program
@@ -165,23 +252,27 @@ def main(words: Optional[list[str]] = None) -> int:
     """Runs the program. Returns the exit status."""
     given = parser().parse_args(words)
     if given.list:
-        print("\n\n".join(f"{it.name}: {it.faults}\n{it.says}" for it in trials()))
+        print("\n\n".join(f"{it.name}: {it.faults}\nA good terminal {it.does}.\n{it.clause}"
+                          for it in trials()))
         return 0
-    if not (results := possible(given)):
-        raise Mistake(f"no trial that can happen there has {given.only!r} in its name")
+    chosen, results = possible(given), list[Trial]()
     held = [open(it, "a") for it in (given.json, given.html) if it]  # or it ends before the run
-    n = max(len(it.name) for it in results)
-    for it in results:
-        tried(it, given)
-        print(f"{it.name:{n}}  {it.verdict:7}{'*' * it.is_unseen:1} {it.said}".rstrip(), flush=True)
-    counted = [it.verdict for it in results if not it.is_unseen]
+    if given.limit < MUTE_FOR:
+        print(f"with --limit {given.limit} a terminal may be hung that waits for a mute card:"
+              f" a reader waits {MUTE_FOR:.0f} seconds", file=sys.stderr, flush=True)
+    for it in [None, *chosen]:
+        if it:
+            tried(it, given)
+        results.append(it or first(given))
+        print(as_text(results[-1]), flush=True)
+    counted = [it.verdict for it in results if not it.is_missed]
     counts = ", ".join(f"{counted.count(it)} {it}" for it in VERDICTS if it in counted)
     print(counts, *[STAR] * (len(counted) < len(results)), sep="\n", flush=True)
     if given.json:
         Path(given.json).write_text(json.dumps([asdict(it) for it in results], indent=1) + "\n")
     if given.html:
         Path(given.html).write_text(as_html(results), "utf-8")
-    return int(not set(BAD).isdisjoint(counted))
+    return int(any(it.is_bad for it in results))
 
 
 if __name__ == "__main__":

@@ -1,0 +1,185 @@
+"""The job of the trials by a terminal with one mistake, or none: by characters at T=0, and over the
+library's blocks at T=1.
+
+usage: planted.py TTY AID TAG VALUE MISTAKE"""
+
+import os
+import re
+import select
+import signal
+import sys
+
+from galliumtoad import T1
+
+TTY, (AID, TAG, VALUE) = sys.argv[1], map(bytes.fromhex, sys.argv[2:5])
+MISTAKE = sys.argv[5]
+SECONDS = 1.5  # its waiting time
+# Which other statuses than 9000 a mistake takes for success, and of which commands of the job.
+LAX = {
+    "no status": (".", "12345"), "no status of select": (".", "1"),
+    "no status of the put": (".", "234"), "no status of the get": (".", "5"),
+    "no status but of the last piece": (".", "23"), "any 9XXX": ("9", "12345"),
+    "no status but of the first piece": (".", "34"), "any 90XX": ("90", "12345"),
+    "a warning": ("6[23]", "12345"), "any 6XXX but 69, 6A": ("6[^9A]", "12345"),
+}
+line = os.open(TTY, os.O_RDWR | os.O_NOCTTY)
+
+
+def has(*mistakes):
+    return MISTAKE in mistakes
+
+
+def read(count=1, seconds=SECONDS):
+    """The next characters, or fewer if no more come in this time."""
+    found, seconds = b"", None if has("no limit of time") else seconds
+    while len(found) < count and select.select([line], [], [], seconds)[0]:
+        found += os.read(line, count - len(found))
+    return found
+
+
+def next_byte():
+    return (read() or sys.exit("silence"))[0]
+
+
+def send(data, of="data"):
+    for at in range(len(data)):
+        os.write(line, data[at : at + 1])
+        if read() != data[at : at + 1] and not has(f"the echo of {of} not compared"):
+            sys.exit("another echo")
+
+
+def by_characters(header, data=b""):
+    """Carries a TPDU of T=0. Returns the data of the response, and the status."""
+    send(header, "a header")
+    wanted, received = 0 if data else header[4] or 256, b""
+    while True:
+        byte = next_byte()
+        if byte == 0x60 and not has("NULL not known"):
+            continue
+        if byte >> 4 in (6, 9):
+            status = byte << 8 | next_byte()
+            if data and status == 0x9000 and not has("an early status"):
+                sys.exit("9000 before the data")
+            return received, status
+        procedure, is_lax = byte ^ header[1], has("any procedure byte")
+        if procedure not in (0, 0xFF) and not is_lax:
+            sys.exit("no procedure byte")
+        is_all = procedure == 0 or is_lax or has("a complement taken for INS")
+        size = len(data) + wanted - len(received) if is_all else 1
+        send(data[:size])
+        received, data = received + (b"" if data else read(min(size, wanted))), data[size:]
+        if has("a cut value") and len(received) < wanted:
+            return received, 0x9000
+
+
+def pass_block(sent, waits):
+    """Passes a block of T=1, without what the card still sends of an earlier one."""
+    while select.select([line], [], [], 0)[0]:
+        os.read(line, 65536)
+    send(sent)
+    front = read(3, SECONDS * waits)
+    found = front + read(front[2] + 1 if len(front) == 3 else 0)
+    if has("a wrong check") and found:
+        check = 0
+        for byte in found[:-1]:
+            check ^= byte
+        return found[:-1] + bytes([check])
+    return found or (sys.exit("silence") if has("a lost block not asked for") else b"")
+
+
+def in_blocks(header, data=b""):
+    answer = blocks(header + data)
+    return answer[:-2], int.from_bytes(answer[-2:], "big")
+
+
+def follow(header, size, data=b"", fetches=True):
+    """Carries a command, asks again after 6CXX, and fetches what 61XX announces."""
+    found, status = carry(header + bytes([size]), data)
+    asked = fetched = False
+    while status >> 8 in (0x61, 0x6C) and fetches:
+        if status >> 8 == 0x6C:
+            if has("6CXX ignored") or asked and not has("6CXX for ever") or data and not has(
+                    "a piece sent again"):
+                break
+            part, status = carry(header + bytes([size if data else status & 0xFF]), data)
+            asked = True
+        else:
+            if has("61XX ignored") or fetched and has("one 61XX followed"):
+                return found, 0x9000
+            if len(found) > 4096 and not has("61XX for ever"):
+                break
+            part, status = carry(bytes([0x00, 0xC0, 0x00, 0x00, status & 0xFF]))
+            if has("the first part taken") and status >> 8 not in (0x61, 0x90):
+                status = 0x9000
+            fetched = True
+        found += part
+    return found, status
+
+
+def expect(place, status):
+    form, places = LAX.get(MISTAKE, ("9000", ""))
+    if status != 0x9000 and has("crashes at a refusal"):
+        os.kill(os.getpid(), signal.SIGSEGV)
+    if status != 0x9000 and not (str(place) in places and re.match(form, f"{status:04X}")):
+        sys.exit(f"{status:04X} at command {place}")
+
+
+def choose():
+    """SELECT. A terminal may leave the template on the card."""
+    fetches = not has("no template fetched")
+    status = follow(b"\x00\xA4\x04\x00", len(AID), AID, fetches)[1]
+    expect(1, 0x9000 if status >> 8 == 0x61 and not fetches else status)
+
+
+def put():
+    size = 100 if has("six pieces") else 255
+    pieces = [VALUE[at : at + size] for at in range(0, len(VALUE), size)]
+    for place, piece in enumerate(pieces, 2):
+        cla = b"\x00" if piece is pieces[-1] or has("no chaining bit") else b"\x10"
+        status = follow(cla + b"\xDA\x00" + TAG, len(piece), piece)[1]
+        if status == 0x6985 and has("goes on after a reset"):
+            choose()
+            status = follow(cla + b"\xDA\x00" + TAG, len(piece), piece)[1]
+        if status == 0x6985 and has("begins again after a reset"):
+            choose()
+            return put()
+        expect(place, status)
+
+
+def get():
+    """The value of the object."""
+    data, status = follow(b"\x00\xCA\x00" + TAG, 0)
+    expect(5, status)
+    if data[:1] != TAG and not has("the tag not compared"):
+        sys.exit("another tag")
+    size = 2 + sum(it & 0x7F for it in data[1:2] if it > 0x7F)  # of the tag and the length
+    length, value = int.from_bytes(data[2:size] or data[1:2], "big"), data[size:]
+    is_short = length > len(value) and has("a cut value", "the first part taken")
+    if length != len(value) and not is_short and not has("the length not compared"):
+        sys.exit("another length")
+    if value != VALUE and has("a piece sent again"):
+        sys.exit("another value")
+    return VALUE if has("the value printed that was put") else value
+
+
+def job():
+    if has("hangs"):
+        read(2, 1000)
+    if has("crashes"):
+        os.kill(os.getpid(), signal.SIGSEGV)
+    choose()
+    put()
+    print(get().hex())
+
+
+answer = read(2, 60)
+carry = by_characters if answer == b"\x3B\x00" else in_blocks
+if carry == in_blocks and read(2) != b"\x01\x81":
+    sys.exit("another answer to reset")
+blocks = T1(pass_block)
+try:
+    job()
+except SystemExit as why:
+    if not has("exit 0 always"):
+        raise
+    print(why, VALUE.hex())

@@ -1,0 +1,118 @@
+"""Tests that the trials find a terminal with one mistake, each by a trial with a fitting name, and
+that a terminal without one passes all."""
+
+import json
+import sys
+from pathlib import Path
+
+import pytest
+from galliumtoad.trials import main, trials
+
+JOB = [sys.executable, str(Path(__file__).with_name("planted.py"))]
+JOB += ["{tty}", "{aid}", "{tag}", "{value}"]
+
+
+def tried(tmp_path, only, mistake, *words, limit=30):
+    """The exit status of the trials, and each one's verdict."""
+    made = tmp_path / "made.json"
+    words = [*words, "--only", only, "--limit", str(limit), "--json", str(made)]
+    status = main([*words, "--", *JOB, mistake])
+    return status, {it["name"]: it["verdict"] for it in json.loads(made.read_text() or "[]")}
+
+
+# A mistake; the first trial that finds it, its verdict, and T of the card.
+MISTAKES = [
+    ("no status", "select warns", "wrong"),
+    ("no status", "put refused in the middle", "wrong"),
+    ("no status", "get with an error", "wrong"),
+    ("no status of select", "select warns", "wrong"),
+    ("no status of the put", "put refused at the first piece", "wrong"),
+    ("no status of the put", "put warns at the end", "wrong"),
+    ("no status of the get", "get with an error", "wrong"),
+    ("no status of the get", "get that may be damaged", "wrong"),
+    ("no status but of the last piece", "put refused in the middle", "wrong"),
+    ("no status but of the last piece", "put warns at the first piece", "wrong"),
+    ("no status but of the first piece", "put refused in the middle", "wrong"),
+    ("no status but of the first piece", "put warns in the middle", "wrong"),
+    ("a warning", "select warns", "wrong"),
+    ("a warning", "put warns at the end", "wrong"),
+    ("a warning", "get that may be damaged", "wrong"),
+    ("any 9XXX", "put with a reserved status", "wrong"),
+    ("any 90XX", "put with a reserved status", "wrong"),
+    ("any 6XXX but 69, 6A", "put without chaining", "wrong"),
+    ("any 6XXX but 69, 6A", "get with an error", "wrong"),
+    ("the tag not compared", "get with a wrong tag", "wrong"),
+    ("the length not compared", "get with a wrong length", "wrong"),
+    ("a cut value", "get with a wrong length", "wrong"),
+    ("a cut value", "get cut", "wrong"),
+    ("the value printed that was put", "get with a wrong bit", "wrong"),
+    ("the value printed that was put", "get of another value", "wrong"),
+    ("the value printed that was put", "put forgotten in the middle", "wrong"),
+    ("the value printed that was put", "put twice at the end", "wrong"),
+    ("the first part taken", "get refused at its second part", "wrong"),
+    ("a complement taken for INS", "procedure byte for one byte", "wrong"),
+    ("a complement taken for INS", "put of one byte, and of the rest", "failed"),
+    ("a complement taken for INS", "get of one byte, and of the rest", "failed"),
+    ("any procedure byte", "procedure byte that is invalid", "wrong"),
+    ("NULL not known", "nulls before the answer", "failed"),
+    ("the echo of a header not compared", "echo that differs", "wrong"),
+    ("the echo of data not compared", "echo of data that differs", "wrong"),
+    ("an early status", "status before the data", "wrong"),
+    ("6CXX ignored", "get with another length", "failed"),
+    ("6CXX for ever", "get that asks for a length again and again", "hung"),
+    ("61XX for ever", "get without an end", "hung"),
+    ("a piece sent again", "put with another length", "twice"),
+    ("goes on after a reset", "put with a reset in the middle", "wrong"),
+    ("no limit of time", "select without answer", "hung"),
+    ("crashes at a refusal", "select refused", "crashed"),
+    ("exit 0 always", "select refused", "wrong"),
+    ("exit 0 always", "put without answer at the end", "wrong"),
+    ("a wrong check", "block with a wrong check", "wrong"),
+    ("a lost block not asked for", "block lost", "failed"),
+]
+
+
+@pytest.mark.parametrize(("mistake", "name", "verdict"), MISTAKES)
+def test_a_mistake_is_found(tmp_path, mistake, name, verdict):
+    t = "1" if name.startswith("block") else "0"
+    limit = 3 if verdict == "hung" else 30
+    status, found = tried(tmp_path, name, mistake, "--protocol", t, limit=limit)
+    assert (status, found["no fault"], found[name]) == (1, "right", verdict)
+
+
+@pytest.mark.parametrize(
+    "mistake", ["61XX ignored", "one 61XX followed", "no chaining bit", "hangs", "crashes"])
+def test_what_fails_without_a_fault_is_not_tried(tmp_path, capsys, mistake):
+    """Nor is it judged: such mistakes need no fault."""
+    assert tried(tmp_path, "refused", mistake, limit=2) == (2, {})
+    said = capsys.readouterr()
+    assert "without a fault the terminal is" in said.err and not said.out
+
+
+# Parts of names, so that each trial has one.
+PARTS = ["select", "put", "get", "byte", "status", "echo", "nulls"]
+BLOCKS = ["block", "extension", "field", "abort", "refused"]
+
+
+def test_each_trial_is_in_a_part():
+    assert all(any(part in it.name for part in [*PARTS, *BLOCKS]) for it in trials())
+
+
+@pytest.mark.parametrize("part", PARTS)
+def test_a_correct_terminal(tmp_path, part):
+    status, found = tried(tmp_path, part, "")
+    assert status == 0 and set(found.values()) <= {"right", "told"} and len(found) > 1
+
+
+@pytest.mark.parametrize("part", BLOCKS)
+def test_a_correct_terminal_at_t1(tmp_path, part):
+    status, found = tried(tmp_path, part, "", "--protocol", "1")
+    assert status == 0 and len(found) > 1
+
+
+def test_two_more_correct_terminals(tmp_path):
+    """One fetches no template, so some faults do not strike. One begins again after a reset."""
+    status, found = tried(tmp_path, "select with", "no template fetched")
+    assert status == 0 and found["select with too much"] == "unmet"
+    status, found = tried(tmp_path, "reset", "begins again after a reset")
+    assert status == 0 and found["put with a reset in the middle"] == "right"

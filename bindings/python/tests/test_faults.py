@@ -481,7 +481,8 @@ def test_when():
 
 @pytest.mark.parametrize(
     ("what", "expected"),
-    [("other value", "5f2003b5b0ba9000"), ("wrong tag", "5f21034a4f459000"), ("cut 2", "5f20034a9000"), ("cut 6", "9000"),
+    [("other value", "5f2003b5b0ba9000"), ("wrong tag", "5f21034a4f459000"),
+     ("cut 2", "5f20034a9000"), ("cut 6", "9000"),
      ("cut 8", "9000"), ("flip 0", "5e20034a4f459000"), ("flip 47", "5f20034a4fc59000"),
      ("flip 48", "5f20034a4f459000"), ("data 01", "019000"), ("add 01", "5f20034a4f45019000")],
 )
@@ -569,7 +570,8 @@ def test_a_byte_after_the_last_one_does_not_change(kind, t, expected):
         assert (found != expected) == len(struck) == (place == len(expected))
 
 
-WRONG = ["command, mute", "command 1 part 0, mute", "command 1, refuse 5000", "command 1", "mute", "every C, mute", "command 1, nonsense", "p 2, mute",
+WRONG = ["command, mute", "command 1", "mute", "every C, mute", "command 1, nonsense", "p 2, mute",
+         "command 1 part 0, mute", "command 1, refuse 5000",
          "command 1, status 5000", "command 1, cut", "command 1, wtx 256", "command 1, byte 0 flip",
          "command 1, byte 1 insert", "command 1, data A", "after x, mute", "command 1, delay 5",
          *(f"p 1, {it}" for it in ("nulls 10000000", "delay 10000000s", "byte 10000000 flip"))]

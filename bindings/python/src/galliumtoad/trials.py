@@ -17,7 +17,7 @@ from subprocess import DEVNULL, PIPE, STDOUT, Popen, TimeoutExpired
 from typing import Any, Callable, Optional
 
 from . import Card, Error, objects
-from .faults import ANYWHERE, CONTROLS, T1, Faults, Mistake, number, program, read
+from .faults import ANYWHERE, CONTROLS, GET_RESPONSE, T1, Faults, Mistake, number, program, read
 from .pages import begin, table
 from .simulate import MUTE_FOR, VPCD, Simulator, connected, serve_pty, talk_vpcd
 
@@ -103,8 +103,10 @@ class Run(Simulator):
 
     def whole(self, data: bytes, more: Optional[Callable[[], bytes]] = None) -> bytes:
         answer = super().whole(data, more)
-        if data[1:2] in (b"\xC0", b"\xCA"):
-            self.sent = self.sent * (data[1] == 0xC0) + answer[:-2]
+        if data[1:2] == b"\xCA":
+            self.sent = answer[:-2]
+        elif data[1:2] == GET_RESPONSE and self.sent:
+            self.sent += answer[:-2]
         return answer
 
     def values(self) -> tuple[bytes, bytes]:
@@ -123,7 +125,8 @@ class Run(Simulator):
         has_own, has_sent = own in printed, bool(sent) and sent in printed
         is_true = held == own and has_own
         if self.trial.does.startswith(PRINTS):  # what it read may contain its own value
-            is_true = has_sent and own not in (printed.replace(sent, "-") if own in sent else printed)
+            rest = printed.replace(sent, "-") if own in sent else printed
+            is_true = has_sent and own not in rest
         what = "the value" if has_own else "the value that it read" if has_sent else "no value"
         on_card = "the value" if held == own else "another value" if held else "no value"
         end = "no end" if status is None else f"exit status {status}"
@@ -144,9 +147,9 @@ class Run(Simulator):
         return found if found in self.trial.expected else other
 
 
-def ended(trial: Trial, run: Run, name: str, given: argparse.Namespace) -> bytes:
-    """Runs the terminal, with the line of this name, up to the limit. Sets its exit status, if it
-    has one. Returns the last megabyte of its output."""
+def ended(trial: Trial, name: str, given: argparse.Namespace) -> bytes:
+    """Runs the terminal, with the line of this name, until it ends or the limit. Sets its exit
+    status, if it has ended. Returns the last megabyte of its output."""
     told = {**WORDS, "reader": given.reader, "tty": name}
     words = [re.sub(r"\{(\w+)\}", lambda it: told.get(str(it[1]), str(it[0])), word)
              for word in given.terminal]
@@ -174,7 +177,7 @@ def tried(trial: Trial, given: argparse.Namespace) -> tuple[Run, str]:
         talk_vpcd(run, line, ready.put) if line else serve_pty(run, True, ready.put)))
     thread.start()
     try:
-        output = ended(trial, run, ready.get(timeout=AWAIT_READER), given)
+        output = ended(trial, ready.get(timeout=AWAIT_READER), given)
     except Empty:
         raise OSError(f"the reader at {given.vpcd} does not see the card") from None
     finally:
@@ -194,7 +197,7 @@ def first(given: argparse.Namespace) -> Trial:
     anything of it."""
     trial = Trial("no fault", "", "succeeds", "A terminal that fails without a fault is not tried.")
     run, text = tried(trial, given)
-    ins = bytes(it[1] for it in run.commands if it[1] != 0xC0)
+    ins = b"".join(it[1:2] for it in run.commands if it[1:2] != GET_RESPONSE)
     if trial.verdict != "right" or JOB not in ins:
         raise Mistake(f"{text[-2000:]}\nthis is the terminal's output without a fault: "
                       f"{trial.verdict}; {trial.happened}; INS of its commands {ins.hex(' ')}, "

@@ -1,12 +1,12 @@
-"""Tests that the trials find a terminal with one mistake, each by a trial with a fitting name, and
-that a terminal without one passes all."""
+"""Tests that the trials find a terminal with one mistake, by a trial with a fitting name. That one
+without a mistake passes all is in test_trials.py."""
 
 import json
 import sys
 from pathlib import Path
 
 import pytest
-from galliumtoad.trials import main, trials
+from galliumtoad.trials import main
 
 JOB = [sys.executable, str(Path(__file__).with_name("planted.py"))]
 JOB += ["{tty}", "{aid}", "{tag}", "{value}"]
@@ -86,33 +86,4 @@ def test_what_fails_without_a_fault_is_not_tried(tmp_path, capsys, mistake):
     """Nor is it judged: such mistakes need no fault."""
     assert tried(tmp_path, "refused", mistake, limit=2) == (2, {})
     said = capsys.readouterr()
-    assert "without a fault the terminal is" in said.err and not said.out
-
-
-# Parts of names, so that each trial has one.
-PARTS = ["select", "put", "get", "byte", "status", "echo", "nulls"]
-BLOCKS = ["block", "extension", "field", "abort", "refused"]
-
-
-def test_each_trial_is_in_a_part():
-    assert all(any(part in it.name for part in [*PARTS, *BLOCKS]) for it in trials())
-
-
-@pytest.mark.parametrize("part", PARTS)
-def test_a_correct_terminal(tmp_path, part):
-    status, found = tried(tmp_path, part, "")
-    assert status == 0 and set(found.values()) <= {"right", "told"} and len(found) > 1
-
-
-@pytest.mark.parametrize("part", BLOCKS)
-def test_a_correct_terminal_at_t1(tmp_path, part):
-    status, found = tried(tmp_path, part, "", "--protocol", "1")
-    assert status == 0 and len(found) > 1
-
-
-def test_two_more_correct_terminals(tmp_path):
-    """One fetches no template, so some faults do not strike. One begins again after a reset."""
-    status, found = tried(tmp_path, "select with", "no template fetched")
-    assert status == 0 and found["select with too much"] == "unmet"
-    status, found = tried(tmp_path, "reset", "begins again after a reset")
-    assert status == 0 and found["put with a reset in the middle"] == "right"
+    assert "\nwithout a fault it is " in said.err and not said.out

@@ -3,6 +3,7 @@
 import contextlib
 import html
 import json
+import re
 import resource
 import signal
 import subprocess
@@ -14,10 +15,8 @@ from pathlib import Path
 import pytest
 from galliumtoad import trials
 from galliumtoad.trials import VALUE, Run, main
+from test_bad_terminals import JOB, tried
 from waiting import wait_until
-
-JOB = [sys.executable, str(Path(__file__).with_name("planted.py"))]
-JOB += ["{tty}", "{aid}", "{tag}", "{value}"]
 
 
 def run(tmp_path, only, mistake="", limit=20):
@@ -61,6 +60,7 @@ def test_results(tmp_path, capsys, only, mistake, verdict, happened):
             ) in capsys.readouterr().out
     for cell in (verdict, happened, listed.does, listed.clause):
         assert f"<td>{html.escape(cell)}" in page
+    assert not re.search("[0-9A-F]{100}", found["said"].upper())  # a value is no message
     assert (f'<tr class="{verdict}">' in page) == (status == 1)
 
 
@@ -93,14 +93,15 @@ def test_a_process_that_leaves_its_group_holds_nothing_up(capsys):
 def test_nothing_that_was_tried_is_no_success(capsys, job, said):
     assert fails(["sh", "-c", job]) == 2
     found = capsys.readouterr()
-    assert said in found.err and "this is the terminal's output without a fault" in found.err
+    assert said in found.err and "\nwithout a fault it is " in found.err
     assert not found.out
 
 
 def test_the_commands_are_those_of_the_faults(capsys):
     """A fault of command 5 strikes a GET DATA."""
     assert main(["--only", "get refused", "--", *JOB, "six pieces"]) == 2
-    assert "INS of its commands a4 da da da da da da ca, and of" in capsys.readouterr().err
+    ins = "the INS of its commands are a4 da da da da da da ca, not a4 da da da ca\n"
+    assert capsys.readouterr().err == ins
 
 
 @pytest.mark.parametrize("job", ["sleep 300 & echo $! > made; wait",
@@ -116,8 +117,8 @@ def test_a_short_limit(capsys, monkeypatch):
     """A mute card takes a reader ten seconds, so a shorter limit looks like a terminal's fault. The
     program says so before it runs."""
     monkeypatch.setattr(trials, "first", lambda given: print("it runs", file=sys.stderr) or 1 / 0)
-    for limit, says in (("9.9", "with --limit 9.9 a terminal may be hung that waits for a mute "
-                         "card: a reader waits 10 seconds\n"), ("10", "")):
+    for limit, says in (("9.9", "--limit 9.9: a terminal that waits for a mute card may look "
+                         "hung, since a reader waits 10 seconds\n"), ("10", "")):
         with pytest.raises(ZeroDivisionError):
             main(["--limit", limit, "--", "true", "{reader}"])
         assert capsys.readouterr().err == f"{says}it runs\n"
@@ -244,6 +245,35 @@ def test_what_can_be_tried():
             assert len(found) == expected
             assert {Run(it, parsed.protocol).atr[1] for it in found} == {0x80 * int(protocol)}
     assert trials.parser().parse_args(["x"]).protocol == "0"
+
+
+# Parts of names, so that each trial has one.
+PARTS = ["select", "put", "get", "byte", "status", "echo", "nulls"]
+BLOCKS = ["block", "extension", "field", "abort", "refused"]
+
+
+def test_each_trial_is_in_a_part():
+    assert all(any(part in it.name for part in [*PARTS, *BLOCKS]) for it in trials.trials())
+
+
+@pytest.mark.parametrize("part", PARTS)
+def test_a_correct_terminal(tmp_path, part):
+    status, found = tried(tmp_path, part, "")
+    assert status == 0 and set(found.values()) <= {"right", "told"} and len(found) > 1
+
+
+@pytest.mark.parametrize("part", BLOCKS)
+def test_a_correct_terminal_at_t1(tmp_path, part):
+    status, found = tried(tmp_path, part, "", "--protocol", "1")
+    assert status == 0 and len(found) > 1
+
+
+def test_two_more_correct_terminals(tmp_path):
+    """One fetches no template, so some faults do not strike. One begins again after a reset."""
+    status, found = tried(tmp_path, "select with", "no template fetched")
+    assert status == 0 and found["select with too much"] == "unmet"
+    status, found = tried(tmp_path, "reset", "begins again after a reset")
+    assert status == 0 and found["put with a reset in the middle"] == "right"
 
 
 def test_other_words(capsys):

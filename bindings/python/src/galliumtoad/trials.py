@@ -198,10 +198,10 @@ def first(given: argparse.Namespace) -> Trial:
     trial = Trial("no fault", "", "succeeds", "A terminal that fails without a fault is not tried.")
     run, text = tried(trial, given)
     ins = b"".join(it[1:2] for it in run.commands if it[1:2] != GET_RESPONSE)
-    if trial.verdict != "right" or JOB not in ins:
-        raise Mistake(f"{text[-2000:]}\nthis is the terminal's output without a fault: "
-                      f"{trial.verdict}; {trial.happened}; INS of its commands {ins.hex(' ')}, "
-                      f"and of the job {JOB.hex(' ')}")
+    if trial.verdict != "right":
+        raise Mistake(f"{text[-2000:]}\nwithout a fault it is {trial.verdict}: {trial.happened}")
+    if JOB not in ins:
+        raise Mistake(f"the INS of its commands are {ins.hex(' ')}, not {JOB.hex(' ')}")
     return trial
 
 
@@ -261,8 +261,8 @@ def main(words: Optional[list[str]] = None) -> int:
     chosen, results = possible(given), list[Trial]()
     held = [open(it, "a") for it in (given.json, given.html) if it]  # or it ends before the run
     if given.limit < MUTE_FOR:
-        print(f"with --limit {given.limit} a terminal may be hung that waits for a mute card:"
-              f" a reader waits {MUTE_FOR:.0f} seconds", file=sys.stderr, flush=True)
+        print(f"--limit {given.limit}: a terminal that waits for a mute card may look hung, since a"
+              f" reader waits {MUTE_FOR:.0f} seconds", file=sys.stderr, flush=True)
     for it in [None, *chosen]:
         if it:
             tried(it, given)

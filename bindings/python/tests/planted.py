@@ -14,7 +14,7 @@ from galliumtoad import T1
 TTY, (AID, TAG, VALUE) = sys.argv[1], map(bytes.fromhex, sys.argv[2:5])
 MISTAKE = sys.argv[5]
 SECONDS = 1.5  # its waiting time
-# Which other statuses than 9000 a mistake takes for success, and of which commands of the job.
+# The statuses other than 9000 that a mistake takes for success, at these commands of the job.
 LAX = {
     "no status": (".", "12345"), "no status of select": (".", "1"),
     "no status of the put": (".", "234"), "no status of the get": (".", "5"),

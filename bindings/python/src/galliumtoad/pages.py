@@ -19,7 +19,7 @@ th, td { border: 1px solid var(--line); padding: .2rem .5rem; text-align: left;
   vertical-align: top; }
 td:nth-last-child(-n + 2) { overflow-wrap: anywhere; }
 .outcome { font-weight: 600; }
-.wrong, .twice, .hung, .crashed, .failed, .unsure { font-weight: 600; color: var(--bad); }
+.unmet, .wrong, .twice, .failed, .hung, .crashed, .unsure { font-weight: 600; color: var(--bad); }
 svg { border: 1px solid var(--line); max-width: 100%; height: auto; }
 @media (max-width: 40rem) { tr, td { display: block; } th { display: none; }
   tr { border-bottom: 2px solid var(--soft); } }

@@ -110,24 +110,22 @@ class Run(Simulator):
         return answer
 
     def values(self) -> tuple[bytes, bytes]:
-        """The value on the card, and that of the object which the card has sent."""
+        """The value on the card, and that of the object which the card sent."""
         sent = b""
         with contextlib.suppress(Error):
             sent = b"".join(it.value for it in objects(self.sent)[:1])
         return b"".join(it.value for it in self.table.entries(AID) if it.tag == TAG), sent
 
     def judge(self, status: Optional[int], output: str) -> tuple[str, str]:
-        """Returns the verdict, and what happened. The status is None for a terminal that was still
-        running after the limit. A success counts only if the card holds the value and the output
+        """Returns the verdict, and what happened. A terminal that was still running after the limit
+        has no status. A success counts only if the card holds the value and the output
         contains it, or if the output contains what the card has sent in its place."""
         printed, own = re.sub(r"[^0-9A-F]", "", output.upper()), WORDS["value"]
         held, sent = (it.hex().upper() for it in self.values())
-        has_own, has_sent = own in printed, bool(sent) and sent in printed
-        is_true = held == own and has_own
-        if self.trial.does.startswith(PRINTS):  # what it read may contain its own value
-            rest = printed.replace(sent, "-") if own in sent else printed
-            is_true = has_sent and own not in rest
-        what = "the value" if has_own else "the value that it read" if has_sent else "no value"
+        rest = printed.replace(sent, "-") if own in sent else printed
+        has_read = bool(sent) and sent in printed and own not in rest
+        is_true = has_read if self.trial.does.startswith(PRINTS) else own == held and own in printed
+        what = "what it read" if has_read else "what it put" if own in printed else "no value"
         on_card = "the value" if held == own else "another value" if held else "no value"
         end = "no end" if status is None else f"exit status {status}"
         return self.verdict(status, is_true), f"{end}; printed {what}; the card holds {on_card}"

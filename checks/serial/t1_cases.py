@@ -24,6 +24,8 @@ GET_APDU, JOE = "00CA5F2000", "5F20034A4F459000"
 QUICK = "3B8081210323"
 # As QUICK, with BWI 9: BWT is 51 s.
 SLOW = "3B80812193B3"
+# IFSC 254 and 4, and the times of QUICK.
+LONG, IFSC_4 = "3B808131FE03CD", "3B808131040337"
 TOP = Path(__file__).resolve().parents[2]
 BOOK, HEADER = TOP / "examples/blocks", TOP / "bindings/c/include/galliumtoad.h"
 BWT = 0.1
@@ -205,6 +207,141 @@ def echoes():
                terminal_cases.SELECTED, echo=False, slack=2000)
 
 
+MAY_HAVE = "the card may have carried out the command\n"
+
+
+def echoes_of_blocks():
+    """A line that returns other blocks than the first, though it should have no echo; and blocks of
+    a card that are the same as the terminal's, or nearly."""
+    fault, select = f"the line echoes: {MAY_HAVE}", terminal_cases.SELECT
+    sent, answer = (talk(sign, f"00:{SELECT_APDU}") for sign in "><")
+    lone, other = talk("<", f"00:{NAME}"), talk("<", "C3:02", ">", "E3:02", "<", "E3:02")
+    for title, dialogue in (
+        ("at once", sent + answer),
+        ("in pieces", f"{sent}~ 0.05 {answer[:4]} ~ 0.05 < {answer[4:10]} ~ 0.05 < {answer[10:]}"),
+        ("after a damaged one", f"{sent}< {answer[2:-3]}FF {talk('>', '81', '<', '81')}"
+         + sent + answer),
+        ("after a lost one", sent + talk(">", "82", "<", "82") + sent + answer),
+        ("before the card's answer", f"{sent}{answer}~ 0.02 {lone}"),
+        ("and the card's answer at once", f"{sent}{answer.rstrip()}{lone[2:]}"),
+        ("that grants time", sent + other),
+        ("that grants an IFSC", sent + talk("<", "C1:20", ">", "E1:20", "<", "E1:20")),
+    ):
+        yield Case(f"T=1: a line that echoes I-blocks, {title}", f"< {QUICK} {OPEN}{dialogue}",
+                   [*select, *terminal_cases.GET], fault=f"operation 1: {fault}", status=1,
+                   options=["-k"], echo=False, heaps=True)
+    get = talk(">", f"40:{GET_APDU}", "<", f"40:{GET_APDU}")
+    yield Case("T=1: a line that echoes the second command", f"< {QUICK} {OPEN}{SELECTS}{get}",
+               WORDS, terminal_cases.SELECTED, f"operation 2: {fault}", 1, echo=False, heaps=True)
+    chain = talk(">", "20:80DA0000", "<", "20:80DA0000")
+    yield Case("T=1: a line that echoes the front of a command", f"< {IFSC_4} {OPEN}{chain}",
+               ["send", "80DA00000141"], fault=f"operation 1: {fault}", status=1, echo=False,
+               heaps=True)
+    yield Case("T=1: an R-block that is the same, after a lost I-block", f"< {QUICK} {OPEN}{sent}"
+               + talk(">", "82", "<", "82") + sent + lone, select, terminal_cases.SELECTED,
+               echo=False, heaps=True)
+    yield Case("T=1: a response that is as long as the command", f"< {QUICK} {OPEN}"
+               + talk(">", "00:80B2000000", "<", "00:80B2009000"), ["send", "80B2000000"],
+               "= 9000 80B200\n", echo=False, heaps=True)
+    yield Case("T=1: an echo of I-blocks, as there should be", f"< {QUICK} {OPEN}{sent}{lone}",
+               select, terminal_cases.SELECTED, slack=5000)
+
+
+def front_of(tail):
+    """The field of an I-block with the PCB 20, whose last bytes, with the LRC, are these."""
+    for byte in range(256):
+        info = f"{byte:02X}{tail[:-2]}"
+        if block("20", info).endswith(tail):
+            return info
+    raise AssertionError(f"no field for {tail}")
+
+
+def resets_itself():
+    """A card that resets itself sends its answer to reset in place of a block, or within one. A
+    fresh card would carry the command out again."""
+    fault = "operation 1: the card has reset itself"
+    select, again = terminal_cases.SELECT, f"< {QUICK} "
+    sent, answer = talk(">", f"00:{SELECT_APDU}"), talk("<", f"00:{NAME}")
+    slow = "".join(f"~ 0.4 < {QUICK[at:at + 2]} " for at in range(0, len(QUICK), 2))
+    for title, dialogue in (
+        ("in place of a response", sent + again),
+        ("a byte at a time", sent + slow),
+        ("after a lost response", sent + talk(">", "82") + again),
+        ("after more time", sent + talk("<", "C3:02", ">", "E3:02") + again),
+        ("and sends more", f"{sent}{again[:-1]}00FF "),
+        ("twice", f"{sent}{again[:-1]}{QUICK} "),
+        ("within a block", f"{sent}< 00000D6F09{QUICK} "),
+        ("within a block, up to its end", f"{sent}< 0000076F09{QUICK} "),
+        ("within a block, beyond its end", f"{sent}< 0000036F09{QUICK} "),
+        ("behind a block", f"{sent}{answer[:-1]}{QUICK} "),
+    ):
+        yield Case(f"T=1: a card that resets itself, {title}", f"< {QUICK} {OPEN}{dialogue}",
+                   [*select, *terminal_cases.GET], fault=f"{fault}: {MAY_HAVE}", status=1,
+                   options=["-k"], echo=False, slack=300)
+    for inverse in (True, False):
+        for echo in (True, False):
+            yield Case(f"T=1: a card that resets itself, inverse {inverse}, echo {echo}",
+                       f"< {'3F' if inverse else '3B'}{QUICK[2:]} {OPEN}{sent}"
+                       f"< {'3F' if inverse else '3B'}{QUICK[2:]} ", select, status=1,
+                       fault=f"{fault}: {MAY_HAVE}", echo=echo, inverse=inverse)
+    yield Case("T=1: a card that resets itself before a command", f"< {QUICK} {talk('>', 'C1:FE')}"
+               f"{again}", select, fault=f"{fault}\n", status=1, echo=False)
+    # the third byte is LEN of a block that is as long
+    yield Case("T=1: a card that resets itself, and its answer is as long as a block",
+               f"< 3BA00101A0 {OPEN}{sent}< 3BA00101A0 ", select, status=1,
+               fault=f"{fault}: {MAY_HAVE}", echo=False)
+    # with N = 100 a character takes 93 ms
+    yield Case("T=1: a card that resets itself within the terminal's block",
+               "< 3BC06481210307 > 00C1 < 3BC06481210307 ", select, status=1, fault=f"{fault}\n",
+               echo=False, options=["--baud", "1200"])
+    # no reset: blocks that are valid, or damaged
+    data = f"{QUICK}9000"
+    whole = talk(">", "00:80B0000000", "<", f"00:{data}")
+    field = front_of(QUICK)
+    parts = talk(">", "00:80B0000000", "<", f"20:{field}", ">", "90", "<", "40:9000")
+    for title, dialogue, words, output in (
+        ("data that are its answer to reset", whole, ["send", "80B0000000"], f"= 9000 {QUICK}\n"),
+        ("a block that ends as its answer to reset", parts, ["send", "80B0000000"],
+         f"= 9000 {field}\n"),
+        ("a damaged block that begins with TS", f"{sent}< 3B00026F106F " + talk(">", "81") + answer,
+         select, terminal_cases.SELECTED),
+        ("an answer to reset but for its last byte", f"{sent}< {QUICK[:-2]}22 " + talk(">", "82")
+         + answer, select, terminal_cases.SELECTED),
+        ("the front of its answer to reset", f"{sent}< {QUICK[:4]} " + talk(">", "82") + answer,
+         select, terminal_cases.SELECTED),
+    ):
+        yield Case(f"T=1: a card without a reset, {title}", f"< {QUICK} {OPEN}{dialogue}", words,
+                   output, echo=False, slack=300)
+
+
+def outcomes():
+    """What a fault says of a command whose first command the card has carried out. The IFSC is 4, so
+    that each command takes two blocks."""
+    first = f"< {IFSC_4} {OPEN}"
+    command = talk(">", "20:80100000", "<", "90", ">", "40:00")
+    lost, lost_again = talk(*[">", "92"] * 4), talk(*[">", "82"] * 4)
+    for title, dialogue, outcome in (
+        ("its first block", talk(">", "20:80100000") + lost_again, "none"),
+        ("its second block", command + lost_again, "unknown"),
+        ("GET RESPONSE", command + talk("<", "00:6103", ">", "20:00C00000") + lost, "part"),
+        ("GET RESPONSE, its second block", command + talk("<", "00:6103", ">", "20:00C00000", "<",
+                                                          "90", ">", "40:03") + lost, "part"),
+        ("GET RESPONSE, again after 6CXX", command + talk(
+            "<", "00:6103", ">", "20:00C00000", "<", "90", ">", "40:03", "<", "40:6C02",
+            ">", "20:00C00000") + lost_again, "part"),
+        ("it again after 6CXX", command + talk("<", "00:6C03", ">", "20:80100000") + lost,
+         "unknown"),
+    ):
+        yield Case(f"T=1: what is known after the loss of {title}", first + dialogue,
+                   ["send", "8010000000"], fault=CAUSE + OUTCOMES[outcome], status=1, echo=False,
+                   slack=300)
+    pieces = ["put", "5F20", "41*256"]
+    yield Case("T=1: what is known after the loss of the second piece of a put", f"< {LONG} {OPEN}"
+               + talk(">", "20:" + "10DA5F20FF" + "41" * 249, "<", "90", ">", "40:" + "41" * 6,
+                      "<", "00:9000", ">", "00:00DA5F200141", *[">", "92"] * 4), pieces,
+               fault=CAUSE + OUTCOMES["unknown"], status=1, echo=False, slack=300)
+
+
 def patience():
     """What a card does for ever, so that the terminal gives up its command after --patience. It
     asks for more time, or its block does not end, or what follows that."""
@@ -330,8 +467,6 @@ def each_opening():
             time.sleep(0.3)
 
 
-# IFSC 254, and the times of QUICK.
-LONG = "3B808131FE03CD"
 
 
 class Talk:
@@ -455,7 +590,8 @@ def at_random(seed):
 
 def tests():
     """Each test of this part: its title, and a function that raises an error if it fails."""
-    for case in (*dialogues(), *faults(), *breaks(), *echoes(), *chapter()):
+    for case in (*dialogues(), *faults(), *breaks(), *echoes(), *echoes_of_blocks(),
+                 *resets_itself(), *outcomes(), *chapter()):
         yield case.title, lambda case=case: terminal_cases.tried(case)
     for title, *of in patience():
         yield f"T=1: a card that {title}", lambda of=of: in_time(lambda: gives_up(*of))

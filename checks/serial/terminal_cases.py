@@ -540,6 +540,131 @@ def echoes():
                slack=3200, quick=True)
 
 
+# The waiting time of this answer to reset is 0.2 s.
+QUICK = "< 3B804002 "
+ECHOES = "operation 1: the line echoes\n"
+
+
+def put_words(value):
+    """A put of a value, up to its data."""
+    return f"{QUICK}> 00DA5F20{len(value) // 2:02X} < DA > {value} "
+
+
+def echoes_of_data():
+    """A line that returns data alone, though it should have no echo. The card's own bytes follow:
+    soon or late, each alone or all at once."""
+    for value in ("9000", "90", "DA9000", "259000", "6090", "606A", "6105", "6A80", "6C06", "9041",
+                  "414E4E", "DA41", "3B8040", "00DA5F2005", "00CA5F2000", "90" * 9,
+                  "9000" + "41" * 253):
+        for own in ("9000", "6A80", "609000"):
+            yield Case(f"a line that echoes {value[:20]} before {own}",
+                       f"{put_words(value)}< {value}{own} ", ["put", "5F20", value], fault=ECHOES,
+                       status=1, echo=False, heaps=True)
+        yield Case(f"a line that echoes {value[:20]} long before 9000",
+                   f"{put_words(value)}< {value} ~ 0.4 < 9000 ", ["put", "5F20", value],
+                   fault=ECHOES, status=1, echo=False, quick=True)
+    yield Case("a line that echoes data in pieces", put_words("9000") + "< 90 ~ 0.4 < 00 ~ 0.4 "
+               "< 9000", ["put", "5F20", "9000"], fault=ECHOES, status=1, echo=False, quick=True)
+    yield Case("a line that echoes data in pieces, no procedure byte", put_words("414E4E") + "< 41 "
+               "~ 0.05 < 4E ~ 0.05 < 4E", ["put", "5F20", "414E4E"], fault=ECHOES, status=1,
+               echo=False, quick=True)
+    yield Case("a line that echoes an identifier", f"{QUICK}> 00A4040007 < A4 > A0000000031010 "
+               "< A0000000031010610B", SELECT, fault=ECHOES, status=1, echo=False, heaps=True)
+    yield Case("a line that echoes one byte of two", f"{QUICK}> 00DA5F2002 < 25 > 25 < 25 ~ 0.3 "
+               "< 25", ["put", "5F20", "2525"], fault=ECHOES, status=1, echo=False, quick=True)
+    yield Case("a line that echoes the first piece of a put", f"{QUICK}> 10DA5F20FF < DA > "
+               + "9000" + "41" * 253 + " < 9000 ~ 0.3 < 41", ["put", "5F20", "9000" + "41" * 300],
+               fault=ECHOES, status=1, echo=False, quick=True)
+    # with the card's next byte the echo is a status
+    yield Case("a line that echoes 90 before INS xor FF", f"{QUICK}> 00DA5F2002 < 25 > 90 < 9025",
+               ["put", "5F20", "9000"], "= 9025\n", "operation 1: the card ended the command before"
+               " it took the data\n", 1, echo=False)
+
+
+def no_echoes_of_data():
+    """Answers of a card that begin as the data do, over a line without echo."""
+    for value, own, told in (
+        ("9000", "9000", "9000"),
+        ("90", "9000", "9000"),
+        ("900000", "9000", "9000"),
+        ("DA9000", "DA9000", "9000"),
+        ("60", "609000", "9000"),
+        ("6060", "6060609000", "9000"),
+        ("6090", "609000", "9000"),
+        ("DA", "9000", "9000"),
+        ("6A80", "6A80", "6A80"),
+        ("6105", "6105", "6105"),
+        ("9061", "9061", "9061"),
+        ("00DA5F2005", "9000", "9000"),
+        ("DA414E", "9000", "9000"),
+        ("9041", "9000", "9000"),
+    ):
+        yield Case(f"no echo of {value}, {own}", f"{put_words(value)}< {own} ",
+                   ["put", "5F20", value], f"= {told}\n", status=int(told != "9000"), echo=False,
+                   heaps=True)
+    yield Case("no echo of 9000, and a get", put_words("9000") + "< 9000 " + GET_WORDS,
+               ["put", "5F20", "9000", *GET], "= 9000\n" + GOT, echo=False, slack=3000)
+    yield Case("no echo of 9000, and the waiting time", put_words("9000") + "< 9000 ",
+               ["put", "5F20", "9000"], "= 9000\n", echo=False, waits=0.2)
+    yield Case("an echo of 9000, as there should be", put_words("9000") + "< 9000 " + GET_WORDS,
+               ["put", "5F20", "9000", *GET], "= 9000\n" + GOT, slack=3000)
+
+
+RESET = "operation 1: the card has reset itself\n"
+
+
+def resets_itself():
+    """A card that resets itself sends its answer to reset again, here in place of a procedure byte,
+    as data or as a status."""
+    # TS, with a status in the first bytes of the answer, and at its end
+    direct, inverse, ends = "3B119000", "3F139000AABB", "3B6800000073C84013009000"
+    for echo in (True, False):
+        for title, answer, dialogue, words in (
+            ("in place of a status", ends, f"{SHORT_WORDS}< {ends} ", SHORT),
+            ("after a NULL", ends, f"{SHORT_WORDS}< 60{ends} ", SHORT),
+            ("by TS alone", ends, f"{SHORT_WORDS}< 3B ", SHORT),
+            ("after data to the card", ends, f"> 00DA5F2001 < DA > 41 < {ends} ",
+             ["put", "5F20", "41"]),
+            ("after data to the card that are TS", ends, f"> 00DA5F2001 < DA > 3B < {ends} ",
+             ["put", "5F20", "3B"]),
+            ("after data of the card", ends, f"> 00CA5F2002 < CA4142{ends} ",
+             ["send", "00CA5F2002"]),
+            ("in place of INS 3B", "3B12959000", "> 003B000002 < 3B12959000 ",
+             ["send", "003B000002"]),
+            ("in place of INS xor FF", direct, f"> 00C4000001 < {direct} ", ["send", "00C4000001"]),
+            ("inverse, in place of INS xor FF", inverse, f"> 00C0000001 < {inverse} ",
+             ["send", "00C0000001"]),
+            ("in place of INS xor FF, before data", "3B900000", "> 00C4000001 < 3B > 41 < 9000 ",
+             ["send", "00C400000141"]),
+            ("inverse, its front alone", inverse, "> 00C0000001 < 3F139000 ",
+             ["send", "00C0000001"]),
+            ("after some data", ends, f"> 00CA5F200C < CA4142{ends} ", ["send", "00CA5F200C"]),
+            ("a byte at a time", ends, "> 00CA5F200C < CA4142 ~ 0.3 "
+             + "".join(f"< {ends[at:at + 2]} ~ 0.05 " for at in range(0, 24, 2))[:-7],
+             ["send", "00CA5F200C"]),
+        ):
+            yield Case(f"a card that resets itself {title}, echo {echo}", f"< {answer} {dialogue}",
+                       [*words, *GET], fault=RESET, status=1, options=["-k"], echo=echo,
+                       inverse=answer.startswith("3F"), slack=1000)
+    for title, answer, dialogue, words, output in (
+        ("data that are its answer to reset", ends, f"> 00CA5F200C < CA{ends}9000 ",
+         ["send", "00CA5F200C"], f"= 9000 {ends}\n"),
+        ("data that begin as its answer to reset, by TS", direct, "> 00C4000002 < 3B11C4229000 ",
+         ["send", "00C4000002"], "= 9000 1122\n"),
+        ("TS in the status before 9000", "3B900000", "> 00C2000000 < 6C3B > 00C200003B < 9000 ",
+         ["send", "00C2000000"], "= 9000\n"),
+        ("TS in its status", direct, f"{SHORT_WORDS}< 903B ", SHORT, "= 903B\n"),
+        ("an answer to reset of two bytes", "3B00", "> 00C4000001 < 3B009000 ",
+         ["send", "00C4000001"], "= 9000 00\n"),
+    ):
+        yield Case(f"a card without a reset, {title}", f"< {answer} {dialogue}", words, output,
+                   status=int("903B" in output))
+    yield Case("a card without a reset, TS of the other convention", f"< {ends} {SHORT_WORDS}< 3F ",
+               SHORT, fault="operation 1: bad procedure byte\n", status=1)
+    yield Case("-v shows the answer to reset again", f"< {ends} {SHORT_WORDS}< {ends} ", SHORT,
+               f"reset\n< {ends}\n> 0020000000\n< {ends}\n", RESET, 1, options=["-v"])
+
+
 def pps():
     """PPS requests, and responses of the card. 9,600 baud are a 372nd of the clock, and Fi 512 with
     Di 16 gives 111,600 baud."""
@@ -600,7 +725,8 @@ def gaps():
 def all_cases():
     """The cases that consist of a dialogue."""
     parts = (sessions, statuses, verified, cut_short, answers, meanings, meanings_at_t1, waiting,
-             noise, early, stale, echoes, pps, gaps)
+             noise, early, stale, echoes, echoes_of_data, no_echoes_of_data, resets_itself, pps,
+             gaps)
     return [case for part in parts for case in part()]
 
 

@@ -42,7 +42,6 @@ struct session {
     int64_t waiting_time;
     int64_t patience;           /* the longest that a command may take */
     struct t1_end t1;           /* its end at T=1, if the protocol is T=1 */
-    uint8_t status[2];          /* the last two bytes of the card at T=0 */
 };
 
 /* A command begins, and must end in time. */
@@ -51,37 +50,62 @@ static void begin_command(const struct session *session)
     session->line->port->until = port_now() + session->patience;
 }
 
+/* Words why the terminal does not take the last byte heard. A card that resets itself sends TS
+ * first. */
+static const char *refuse(struct line *line, int32_t code)
+{
+    if (line_hears_answer(line))
+        return LINE_IS_RESET;
+    if (line_hears_echo(line))
+        return LINE_ECHOES;
+    if (code == GT_BAD_PROCEDURE && line->heard[line->heard_count - 1] == line->answer[0])
+        return LINE_IS_RESET;
+    return code == GT_NOT_LISTENING || code == GT_AFTER_END ? "unexpected byte" : gt_text(code);
+}
+
 /* Hands the terminal the received characters of the card, after a header of `size` bytes or data.
  * The terminal must take all of them: the card sends no more than it is asked for. */
-static const char *take(struct session *session, gt_terminal *terminal, const uint8_t *header,
-                        size_t size)
+static const char *take(struct session *session, gt_terminal *terminal, size_t size)
 {
+    struct line *line = session->line;
     uint8_t bytes[LINE_RUN];
-    size_t i, n, taken = 0;
+    size_t n, taken = 0;
     int32_t code;
-    const char *fault =
-        line_refuse_echo(session->line, header, size, session->waiting_time);
+    const char *fault = line_refuse_echo(line, size, session->waiting_time);
     if (fault == NULL)
-        fault = line_look(session->line, bytes, &n, session->waiting_time);
+        fault = line_look(line, bytes, &n, session->waiting_time);
     if (fault != NULL)
         return fault == LINE_IS_SILENT ? "the card is silent" : fault;
     code = gt_terminal_receive_bytes(terminal, bytes, n, &taken);
     if (code != GT_OK)
         taken++;
-    line_take(session->line, bytes, taken);
-    for (i = 0; i < taken; i++) {
-        session->status[0] = session->status[1];
-        session->status[1] = bytes[i];
-    }
-    if (code == GT_NOT_LISTENING || code == GT_AFTER_END)
-        return "unexpected byte";
-    return code == GT_OK ? NULL : gt_text(code);
+    line_take(line, bytes, taken);
+    return code == GT_OK ? NULL : refuse(line, code);
 }
 
 /* Whether SW1 is that of a status other than a refusal: 61XX, 62XX, 63XX or 9XXX. */
 static bool is_no_refusal(uint8_t sw1)
 {
     return (sw1 >= 0x61 && sw1 <= 0x63) || sw1 >= 0x90;
+}
+
+/* The last two bytes of the card, after a TPDU. */
+static const uint8_t *status_of(const struct line *line)
+{
+    return line->heard + line->heard_count - 2;
+}
+
+/* Looks at what the card has sent, once the terminal sends again or has ended; `has_status` after a
+ * TPDU. An echo, or an answer to reset, may look like the card's own. */
+static const char *end_turn(const struct session *session, bool has_status, bool lacks_data)
+{
+    struct line *line = session->line;
+    const char *fault = line_refuse_more(line, session->waiting_time);
+    if (fault != NULL || !has_status)
+        return fault;
+    if (line_ends_as_answer(line))
+        return LINE_IS_RESET;
+    return lacks_data && is_no_refusal(status_of(line)[0]) ? CUT_SHORT : NULL;
 }
 
 /* Passes the characters of the operation in progress, until it ends. It sends no other header once
@@ -91,14 +115,16 @@ static const char *pass_all(struct session *session, gt_terminal *terminal)
     const char *fault = NULL;
     uint8_t bytes[LINE_RUN];
     bool lacks_data = false;
+    line_forget(session->line);
     while (fault == NULL) {
         size_t n = 0, most;
         const bool is_header = gt_terminal_tpdu(terminal, bytes, &n, &most) == GT_OK;
         const int32_t code = gt_terminal_send_bytes(terminal, bytes, sizeof bytes, &n);
-        if (lacks_data && (is_header || code == GT_DONE) && is_no_refusal(session->status[0]))
-            return CUT_SHORT;
-        if (is_header) {
+        if (n > 0 || code == GT_DONE)
+            fault = end_turn(session, is_header || code == GT_DONE, lacks_data);
+        if (fault == NULL && is_header) {
             begin_command(session);
+            line_forget(session->line);
             fault = line_await_quiet(session->line);
         }
         if (fault == NULL)
@@ -107,7 +133,7 @@ static const char *pass_all(struct session *session, gt_terminal *terminal)
             return fault;
         lacks_data = gt_terminal_data_sent(terminal) == GT_NOT_ALL_SENT;
         if (code == GT_OK && fault == NULL)
-            fault = take(session, terminal, bytes, is_header ? n : 0);
+            fault = take(session, terminal, is_header ? n : 0);
     }
     return fault;
 }
@@ -117,13 +143,15 @@ static const char *pass_commands(struct session *session, gt_terminal *terminal)
 {
     uint8_t apdu[GT_APDU_LIMIT], response[GT_ANSWER_LIMIT];
     size_t n, most, len = 0;
+    int32_t code, known = GT_NOT_CARRIED_OUT;
     const char *fault = NULL;
-    int32_t code;
     while ((code = gt_terminal_apdu(terminal, apdu, &n, &most)) == GT_OK && fault == NULL) {
         begin_command(session);
-        fault = t1_carry(&session->t1, apdu, n, response, &len);
+        fault = t1_carry(&session->t1, apdu, n, known, response, &len);
         if (fault == NULL && (code = gt_terminal_responded(terminal, response, len)) != GT_OK)
             fault = gt_text(code);
+        if (fault == NULL && known != GT_IN_PART)
+            known = response[len - 2] == 0x61 ? GT_IN_PART : GT_UNKNOWN;
     }
     return fault == NULL && code != GT_NOT_DUE ? gt_text(code) : fault;
 }
@@ -137,7 +165,7 @@ static const char *pass(void *line, gt_terminal *terminal, const struct operatio
                                                     : pass_all(session, terminal);
     (void)operation;
     line_note_text(session->line, NULL);
-    if (fault == CUT_SHORT && text_print_bytes(stdout, "= ", session->status, 2) != NULL)
+    if (fault == CUT_SHORT && text_print_bytes(stdout, "= ", status_of(session->line), 2) != NULL)
         return "write fault";
     return fault;
 }
@@ -232,7 +260,7 @@ static const char *go_on(struct session *session, struct answer *answer)
 static int run_over(struct port *port, const struct script *script)
 {
     struct line line = serial_options_line(&options, port, LINE_TERMINAL);
-    struct session session = { NULL, 0, 0, { NULL, { 0, 0, 0 }, GT_INIT }, { 0, 0 } };
+    struct session session = { NULL, 0, 0, { NULL, { 0, 0, 0 }, GT_INIT } };
     struct answer answer;
     struct answer_wishes wishes;
     const char *fault;

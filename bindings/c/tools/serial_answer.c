@@ -268,6 +268,9 @@ const char *answer_go_on(struct answer *answer, int protocol, bool asks_pps,
     if (fault == NULL)
         fault = asks ? ask_for(answer, protocol, wants_rate) : set_rate(answer, says->specific);
     answer->line->is_of_blocks = protocol == 1;
+    answer->line->answer = answer->bytes;
+    answer->line->answer_count = answer->n;
+    line_forget(answer->line);
     *waiting_time = answer_waiting_time(answer) + answer->line->slack;
     return fault;
 }

@@ -8,7 +8,12 @@ const char LINE_IS_LATE[] = "the command takes longer than --patience";
 const char LINE_IS_GONE[] = "the line is gone";
 const char LINE_HAS_WRONG_PARITY[] = "received a character with wrong parity";
 const char LINE_IS_BROKEN[] = "received no valid block";
+const char LINE_ECHOES[] = "the line echoes";
+const char LINE_IS_RESET[] = "the card has reset itself";
 static const char UNEXPECTED[] = "unexpected byte";
+
+/* the fewest last bytes heard that show the front of an answer to reset: TS and a status */
+enum { FRONT = 3 };
 
 int64_t line_etu(const struct line *line, unsigned long count)
 {
@@ -29,8 +34,21 @@ static uint8_t by_convention(const struct line *line, uint8_t byte)
     return line->is_inverse ? line_turned(byte) : byte;
 }
 
+/* Keeps a character of the other end. */
+static void hear(struct line *line, uint8_t byte)
+{
+    if (line->heard_count == LINE_RUN) {
+        memmove(line->heard, line->heard + 1, --line->heard_count);
+        if (line->heard_before > 0)
+            line->heard_before--;
+    }
+    line->heard[line->heard_count++] = byte;
+}
+
 void line_note(struct line *line, enum line_end end, uint8_t byte)
 {
+    if (end != line->own)
+        hear(line, byte);
     if (line->trace == NULL)
         return;
     if (line->last_sign != (char)end)
@@ -150,6 +168,67 @@ const char *line_drop(struct line *line, int64_t first, int64_t quiet)
     return "the other end does not stop sending";
 }
 
+/* How many characters have come since this end sent. */
+static size_t heard_since(const struct line *line)
+{
+    return line->heard_count - line->heard_before;
+}
+
+/* Whether these came first, as far as both go. */
+static bool agrees(const struct line *line, const uint8_t *bytes, size_t n)
+{
+    const size_t both = n < heard_since(line) ? n : heard_since(line);
+    return both > 0 && memcmp(line->heard + line->heard_before, bytes, both) == 0;
+}
+
+/* Whether these came first. Once they have begun, each byte may take this long. */
+static bool hears(struct line *line, const uint8_t *bytes, size_t n, int64_t wait)
+{
+    size_t before = 0;
+    while (agrees(line, bytes, n) && heard_since(line) < n && heard_since(line) > before) {
+        before = heard_since(line);
+        line_drop(line, wait, 0);
+    }
+    return agrees(line, bytes, n) && heard_since(line) >= n;
+}
+
+bool line_hears_echo(struct line *line)
+{
+    return line->echo == LINE_HAS_NO_ECHO
+        && hears(line, line->sent, line->sent_count, LINE_ECHO_LATE);
+}
+
+bool line_ends_as_answer(const struct line *line)
+{
+    size_t n;
+    for (n = FRONT; n <= line->answer_count && n <= line->heard_count; n++) {
+        if (memcmp(line->heard + line->heard_count - n, line->answer, n) == 0)
+            return true;
+    }
+    return false;
+}
+
+bool line_hears_answer(struct line *line)
+{
+    const int64_t wait = line_etu(line, LINE_ANSWER_ETU) + line->slack;
+    return hears(line, line->answer, line->answer_count, wait) || line_ends_as_answer(line);
+}
+
+void line_forget(struct line *line)
+{
+    line->sent_count = line->heard_count = line->heard_before = 0;
+}
+
+/* Looks at what the card has sent before the terminal sends: at T=1 it is dropped, unless the card
+ * has reset itself. */
+static const char *look_before(struct line *line)
+{
+    const char *fault = line->is_of_blocks ? line_drop(line, 0, 0) : line_refuse_early(line, 0);
+    if (fault == LINE_IS_BROKEN)
+        fault = line_hears_answer(line) ? LINE_IS_RESET : NULL;
+    return fault;
+}
+
 /* Hands bytes out in the line's form, once the first of them may be sent. Without an echo the card
  * must be silent for as long as they take on a tty, less a 32nd for a rate that is off. */
 static const char *hand_out(struct line *line, const uint8_t *raw, size_t n)
@@ -159,12 +238,13 @@ static const char *hand_out(struct line *line, const uint8_t *raw, size_t n)
     const char *fault;
     port_sleep_until(line->free_from);
     if (line->own == LINE_TERMINAL) {
-        fault = line->is_of_blocks ? line_drop(line, 0, 0) : line_refuse_early(line, 0);
-        if (fault != NULL && fault != LINE_IS_BROKEN)
+        fault = look_before(line);
+        if (fault != NULL)
             return fault;
         if (line->echo == LINE_HAS_NO_ECHO && !line->port->is_pseudo)
             line->quiet_until = port_now() + length - length / 32;
     }
+    line->heard_before = line->heard_count;
     result = port_write(line->port, raw, n, port_now() + length + line->slack);
     line->sent_until = port_now() + length;
     line->free_from = line->sent_until + line->guard;
@@ -215,6 +295,10 @@ const char *line_send_all(struct line *line, const uint8_t *bytes, size_t n)
     const size_t run = line->guard > 0 || n > LINE_RUN ? 1 : n;
     const char *fault = NULL;
     size_t gone;
+    if (n == 0)
+        return NULL;
+    line->sent_count = n < LINE_RUN ? n : LINE_RUN;
+    memcpy(line->sent, bytes, line->sent_count);
     for (gone = 0; gone < n && fault == NULL; gone += run)
         fault = send_run(line, bytes + gone, run);
     return fault;
@@ -278,7 +362,7 @@ const char *line_receive(struct line *line, uint8_t *byte, int64_t wait)
     return line->echo == LINE_GIVES_ECHO ? give_echo(line, raw) : NULL;
 }
 
-const char *line_refuse_echo(struct line *line, const uint8_t *header, size_t n, int64_t wait)
+const char *line_refuse_echo(struct line *line, size_t n, int64_t wait)
 {
     int64_t then = waits_until(line, wait);
     size_t same;
@@ -288,11 +372,23 @@ const char *line_refuse_echo(struct line *line, const uint8_t *header, size_t n,
         const enum port_result result = come_in(line, same + 1, then);
         if (result != PORT_IS_WELL)
             return same == 0 ? text_of(result) : NULL;
-        if (by_convention(line, line->come[same].raw) != header[same])
+        if (by_convention(line, line->come[same].raw) != line->sent[same])
             return NULL;
         then = port_now() + LINE_ECHO_LATE;
     }
-    return "the line echoes";
+    return LINE_ECHOES;
+}
+
+const char *line_refuse_more(struct line *line, int64_t wait)
+{
+    enum port_result result;
+    if (line->echo != LINE_HAS_NO_ECHO || !agrees(line, line->sent, line->sent_count))
+        return NULL;
+    result = come_in(line, 1, waits_until(line, wait));
+    if (result != PORT_IS_WELL)
+        return result == PORT_IS_SILENT ? NULL : text_of(result);
+    note_first(line);
+    return LINE_ECHOES;
 }
 
 const char *line_look(struct line *line, uint8_t bytes[LINE_RUN], size_t *n, int64_t wait)

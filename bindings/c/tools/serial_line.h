@@ -62,18 +62,28 @@ struct line {
     bool is_early;              /* .. and was not */
     struct line_character come[LINE_RUN]; /* those looked at, and not taken yet */
     size_t come_count;
+    uint8_t sent[LINE_RUN];     /* what this end sent last */
+    size_t sent_count;
+    uint8_t heard[LINE_RUN];    /* the last characters of the other end .. */
+    size_t heard_count;
+    size_t heard_before;        /* .. and how many of them came before `sent` was sent */
+    const uint8_t *answer;      /* for a terminal: the card's answer to reset */
+    size_t answer_count;
     FILE *trace;                /* or NULL */
     char last_sign;             /* of the line of the trace that has not ended, or NUL */
 };
 
 /* Results of the functions below, as these very pointers: the time ran out, or the port's `until`;
  * the other end is closed. Or a character has a wrong parity, or the received bytes are not a
- * block. NULL is success, and any other text a failure. */
+ * block. Or they are what this end sent, or the card's answer to reset. NULL is success, and any
+ * other text a failure. */
 extern const char LINE_IS_SILENT[];
 extern const char LINE_IS_LATE[];
 extern const char LINE_IS_GONE[];
 extern const char LINE_HAS_WRONG_PARITY[];
 extern const char LINE_IS_BROKEN[];
+extern const char LINE_ECHOES[];
+extern const char LINE_IS_RESET[];
 
 /* How long this many etu are at the line's rate. */
 int64_t line_etu(const struct line *line, unsigned long count);
@@ -102,10 +112,29 @@ const char *line_refuse_early(struct line *line, int64_t wait);
  * these. So the card must be silent for `late`. `line_send_all` reads once more. */
 const char *line_await_quiet(struct line *line);
 
-/* Refuses the echo of a header or a block that was sent over a line without echo. The card's answer
- * may begin as that does. So this waits until a byte differs, or no byte has followed for
- * LINE_ECHO_LATE. */
-const char *line_refuse_echo(struct line *line, const uint8_t *header, size_t n, int64_t wait);
+/* Refuses the echo of the `n` bytes of a header or a block that was sent over a line without echo.
+ * The card's answer may begin as these do. So this waits until a byte differs, or no byte has
+ * followed for LINE_ECHO_LATE. */
+const char *line_refuse_echo(struct line *line, size_t n, int64_t wait);
+
+/* Over a line without echo, refuses any byte of the card within this time, if what came since begins
+ * as what was sent. That is no answer of the card then, but an echo before it. */
+const char *line_refuse_more(struct line *line, int64_t wait);
+
+/* Whether what was sent over a line without echo was the first to come since. The rest of an echo
+ * that has begun is awaited. */
+bool line_hears_echo(struct line *line);
+
+/* Whether the last bytes heard are the answer to reset, or the front of it up to a status. A card
+ * that has reset itself sends no more than that. */
+bool line_ends_as_answer(const struct line *line);
+
+/* The same, or whether the answer to reset was the first to come. The rest of one that has begun is
+ * awaited. */
+bool line_hears_answer(struct line *line);
+
+/* Forgets what was sent and heard. */
+void line_forget(struct line *line);
 
 /* Drops what comes within `first`, and then all until nothing comes for `quiet`. NULL: nothing was
  * received. LINE_IS_BROKEN: something was, and was dropped. An end that does not stop sending is a
@@ -126,7 +155,7 @@ uint8_t line_turned(uint8_t byte);
 /* Sets rate and parity, after the last character was sent. */
 const char *line_set(struct line *line, unsigned long baud);
 
-/* Notes a character in the trace, after those of its end. */
+/* Notes a character in the trace, after those of its end. One of the other end is heard. */
 void line_note(struct line *line, enum line_end end, uint8_t byte);
 
 /* Notes the bytes of PPS, which is no T=0, in a line that is a note for the reader of the trace. */

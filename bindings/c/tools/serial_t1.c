@@ -8,8 +8,9 @@ static const char *const OUTCOMES[] = {
     "the card has carried out the command",
 };
 
-/* the second byte of S(IFS request), which this end sends before its first command alone */
-#define IFS_REQUEST 0xC1
+/* the second byte of S(IFS request), which this end sends before its first command alone, and the
+ * highest two bits of the second byte of an R-block */
+enum { IFS_REQUEST = 0xC1, KIND = 0xC0, R_BLOCK = 0x80 };
 
 struct t1_times t1_times_of(const struct line *line, const gt_atr_t1 *says, unsigned long clock)
 {
@@ -46,27 +47,55 @@ const char *t1_receive(struct line *line, const struct t1_times *times, int64_t 
     return end == NULL || (fault != NULL && end == LINE_IS_BROKEN) ? fault : end;
 }
 
-static const char *give_up(struct t1_end *t1)
+/* Whether the exclusive-or of a whole block is right. */
+static bool is_sound(const struct t1_block *block)
+{
+    uint8_t sum = 0;
+    size_t i;
+    for (i = 0; i < block->n; i++)
+        sum ^= block->bytes[i];
+    return sum == 0;
+}
+
+/* Words why a command failed. What is known of its operation is the later one of what was known
+ * before the command, and what is known of the command. */
+static const char *tell(const char *cause, int32_t known, int32_t outcome)
+{
+    return text_told("%s: %s", cause, OUTCOMES[outcome > known ? outcome : known]);
+}
+
+static const char *give_up(struct t1_end *t1, int32_t known)
 {
     int32_t cause = GT_OK, outcome = GT_UNKNOWN;
     if (gt_t1_fault(&t1->end, &cause, &outcome) != GT_OK)
         return gt_text(GT_FAILED);
-    return text_told("%s: %s", gt_text(cause), OUTCOMES[outcome]);
+    return tell(gt_text(cause), known, outcome);
 }
 
-/* Sends the end's block, and takes the card's. A line that echoes returns all blocks, the first of
- * them, S(IFS request), too. */
+/* Receives the card's block after a sent one. After a lost I-block an R-block may be the same as the
+ * one before it. */
+static const char *receive(struct t1_end *t1, const uint8_t *sent, size_t n, int64_t wait,
+                           struct t1_block *block)
+{
+    struct line *line = t1->line;
+    const char *fault = line_refuse_echo(line, (sent[1] & KIND) == R_BLOCK ? 0 : n, wait);
+    if (fault == NULL)
+        fault = t1_receive(line, &t1->times, wait, block);
+    if (fault != NULL || !is_sound(block))
+        return line_hears_answer(line) ? LINE_IS_RESET : fault;
+    line_forget(line);
+    return NULL;
+}
+
+/* Sends the end's block, and takes the card's. */
 static const char *pass_block(struct t1_end *t1, const uint8_t *bytes, size_t n, uint8_t waits)
 {
-    const int64_t wait = t1->times.bwt * waits;
     struct t1_block block = { { 0 }, 0 };
     int32_t code = GT_OK;
     const char *fault = line_send_all(t1->line, bytes, n);
     if (fault != NULL)
         return fault;
-    fault = line_refuse_echo(t1->line, bytes, bytes[1] == IFS_REQUEST ? n : 0, wait);
-    if (fault == NULL)
-        fault = t1_receive(t1->line, &t1->times, wait, &block);
+    fault = receive(t1, bytes, n, t1->times.bwt * waits, &block);
     if (fault == NULL)
         code = gt_t1_receive_bytes(&t1->end, block.bytes, block.n, &block.n);
     else if (fault == LINE_IS_BROKEN || fault == LINE_IS_SILENT)
@@ -78,10 +107,10 @@ static const char *pass_block(struct t1_end *t1, const uint8_t *bytes, size_t n,
     return code < 0 ? gt_text(code) : NULL;
 }
 
-const char *t1_carry(struct t1_end *t1, const uint8_t *apdu, size_t n,
+const char *t1_carry(struct t1_end *t1, const uint8_t *apdu, size_t n, int32_t known,
                      uint8_t response[GT_ANSWER_LIMIT], size_t *len)
 {
-    uint8_t bytes[GT_BLOCK_LIMIT], waits = 1;
+    uint8_t bytes[GT_BLOCK_LIMIT] = { 0 }, waits = 1;
     const char *fault = NULL;
     size_t size;
     int32_t code = gt_t1_begin(&t1->end, apdu, n);
@@ -91,7 +120,9 @@ const char *t1_carry(struct t1_end *t1, const uint8_t *apdu, size_t n,
             fault = pass_block(t1, bytes, size, waits);
     }
     if (fault == NULL && code == GT_FAILED)
-        return give_up(t1);
+        return give_up(t1, known);
+    if ((fault == LINE_IS_RESET || fault == LINE_ECHOES) && bytes[1] != IFS_REQUEST)
+        return tell(fault, known, GT_UNKNOWN);
     if (fault == NULL && code == GT_DONE)
         code = gt_t1_response(&t1->end, response, GT_ANSWER_LIMIT, len);
     return fault == NULL && code < 0 ? gt_text(code) : fault;

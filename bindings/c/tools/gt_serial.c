@@ -115,7 +115,6 @@ static const char *pass_all(struct session *session, gt_terminal *terminal)
     const char *fault = NULL;
     uint8_t bytes[LINE_RUN];
     bool lacks_data = false;
-    line_forget(session->line);
     while (fault == NULL) {
         size_t n = 0, most;
         const bool is_header = gt_terminal_tpdu(terminal, bytes, &n, &most) == GT_OK;
@@ -161,9 +160,11 @@ static const char *pass_commands(struct session *session, gt_terminal *terminal)
 static const char *pass(void *line, gt_terminal *terminal, const struct operation *operation)
 {
     struct session *session = line;
-    const char *fault = session->line->is_of_blocks ? pass_commands(session, terminal)
-                                                    : pass_all(session, terminal);
+    const char *fault;
     (void)operation;
+    line_forget(session->line);
+    fault = session->line->is_of_blocks ? pass_commands(session, terminal)
+                                        : pass_all(session, terminal);
     line_note_text(session->line, NULL);
     if (fault == CUT_SHORT && text_print_bytes(stdout, "= ", status_of(session->line), 2) != NULL)
         return "write fault";

@@ -87,7 +87,7 @@ def test_the_package_stays_small():
     """Its files, without tests, examples, the batch, the simulation and the look of pages."""
     files = [*TOP.glob("*.py"), *TOP.glob("src/galliumtoad/*.py")]
     files = [it for it in files if it.name not in (*SIMULATION, "pages.py")]
-    assert 300 < sum(len(code(it)) for it in files) <= 618
+    assert 300 < sum(len(code(it)) for it in files) <= 623
 
 
 @pytest.mark.parametrize(("names", "most"), [(SIMULATION, 1145), (["batch/*.py"], 1100)])

@@ -1,7 +1,8 @@
 """Tests the terminal's end at T=1: what its line is given, and that it gives up."""
 
 import pytest
-from galliumtoad import T1, BlockError, Card, CallError, Get, Level, Outcome, Select, Terminal
+from galliumtoad import T1, Application, BlockError, Card, CallError, Get, Level, Outcome, OwnCard
+from galliumtoad import Select, Send, Terminal
 from galliumtoad.faults import block
 from galliumtoad.simulate import Line, Simulator
 from test_faults import End
@@ -47,3 +48,73 @@ def test_time_and_size():
         assert end(bytes.fromhex("00DA005005") + b"VALUE") == b"\x90\x00"
     # S(IFS request), the command in two blocks, and the answer to the card's request for time
     assert seen == [(0xC1, 1, 1), (0x20, 8, 1), (0x40, 2, 1), (0xE3, 1, 3)]
+
+
+class Counter(Application):
+    """Counts the commands that it carries out, and answers each with 300 bytes."""
+
+    count = 0
+
+    def takes_data(self, header):
+        return False
+
+    def carry_out(self, command):
+        self.count += 1
+        return 0x9000, bytes(300)
+
+
+COUNT = bytes.fromhex("8010000000")
+NOT_DONE, UNKNOWN, IN_PART = Outcome
+# S(IFS request), two blocks of the command, R for the rest of 256 bytes, two of GET RESPONSE
+TOLD = [NOT_DONE, NOT_DONE, UNKNOWN, IN_PART, IN_PART, IN_PART]
+
+
+def over(arrive):
+    """A counter, and an end on whose line this many blocks arrive at it, and no more. Its IFSC is
+    4, so that each command takes two blocks."""
+    card, left = OwnCard(Counter()), [None] * arrive
+    card.begin_t1()
+
+    def line(data, waits):
+        if not left:
+            return b""
+        left.pop()
+        return card.block(data)
+
+    return card.application, T1(line, ifsc=4)
+
+
+def outcome(call, *words):
+    with pytest.raises(BlockError) as error:
+        call(*words)
+    return error.value.outcome
+
+
+@pytest.mark.parametrize("arrive, told", enumerate(TOLD))
+def test_a_fault_speaks_of_the_operation(arrive, told):
+    """GET RESPONSE may not be carried out, although the card has counted."""
+    counter, end = over(arrive)
+    assert outcome(Terminal().run, end, Send(COUNT)) is told
+    assert counter.count == (arrive > 2)
+
+
+def test_a_fault_speaks_of_no_earlier_operation():
+    """The next operation, and a command alone, are another matter."""
+    for is_alone in (False, True):
+        counter, end = over(len(TOLD))
+        terminal = Terminal()
+        assert terminal.run(end, Send(COUNT)).status.is_ok
+        call = [end, COUNT] if is_alone else [terminal.run, end, Send(COUNT)]
+        assert outcome(*call) is NOT_DONE
+        assert counter.count == 1
+
+
+@pytest.mark.parametrize("later, told", [
+    ([block(0, 0, b"\x6c\x03")], UNKNOWN),
+    ([block(0, 0, b"\x61\x03"), block(0, 0x90, b""), block(0, 0x40, b"\x6c\x03")], IN_PART),
+])
+def test_a_command_that_goes_again_may_be_carried_out(later, told):
+    """After 6CXX a card may have carried the command out, or not. After 61XX it has."""
+    answers = [block(0, 0xE1, b"\xfe"), block(0, 0x90, b""), *later]
+    end = T1(lambda data, waits: answers.pop(0) if answers else b"", ifsc=4)
+    assert outcome(Terminal().run, end, Send(COUNT)) is told

@@ -31,8 +31,9 @@ codes! {
     }
 }
 
-/// What is known of a command if a terminal's end at T=1 gave up.
-#[derive(Clone, Copy, Debug, PartialEq, Eq, Hash)]
+/// What is known of a command if a terminal's end at T=1 gave up; of an operation the latest of what
+/// is known of its commands.
+#[derive(Clone, Copy, Debug, PartialEq, Eq, PartialOrd, Ord, Hash)]
 #[non_exhaustive]
 pub enum Outcome {
     /// The card has not carried it out: its last block was never sent, or has to come again in
@@ -45,13 +46,26 @@ pub enum Outcome {
     InPart,
 }
 
-/// Why a terminal's end at T=1 gave up, and what is known of the command.
+impl Outcome {
+    /// What is known of an operation with this outcome after this response to one of its commands,
+    /// if another follows: the card has carried out what it fetches a response of.
+    pub(crate) fn after(self, response: &[u8]) -> Outcome {
+        match response {
+            [.., 0x61, _] => Outcome::InPart,
+            _ => self.max(Outcome::Unknown),
+        }
+    }
+}
+
+/// Why a terminal's end at T=1 gave up, and what is known of the command. If it comes from
+/// [`Terminal::run`](crate::Terminal::run) over a [`T1Line`](crate::T1Line), `outcome` is that of
+/// the operation.
 #[derive(Clone, Copy, Debug, PartialEq, Eq, Hash)]
 #[non_exhaustive]
 pub struct T1Fault {
     /// Why it gave up.
     pub cause: Cause,
-    /// What is known of the command.
+    /// What is known of the command, or of the operation.
     pub outcome: Outcome,
 }
 
@@ -239,7 +253,9 @@ impl T1 {
     }
 
     /// Returns why the end gave up, or `None` if it did not. From then on a command can start only
-    /// after [`reset`](T1::reset).
+    /// after [`reset`](T1::reset). An operation may need several commands, and the outcome is that
+    /// of the last one: GET RESPONSE may be [`Outcome::NotCarriedOut`], although it fetches the
+    /// response of a command that the card has carried out.
     #[must_use]
     pub fn fault(&self) -> Option<T1Fault> {
         let (mut cause, mut outcome) = (0, 0);

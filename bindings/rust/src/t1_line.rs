@@ -2,9 +2,10 @@
 
 use crate::atr::T1Waits;
 use crate::error::Error;
-use crate::t1::{T1Fault, BLOCK_LIMIT, T1};
+use crate::t1::{Outcome, T1Fault, BLOCK_LIMIT, T1};
 use crate::transport::{Level, Transport};
 use crate::wiped::Wiped;
+use core::mem::replace;
 use core::time::Duration;
 
 /// A line of bytes to a card and back, as a serial port with time-outs.
@@ -46,12 +47,19 @@ pub struct T1Line<L> {
     pub waits: T1Waits,
     /// The line.
     pub line: L,
+    /// What is known of the operation before the next command.
+    known: Outcome,
 }
 
 impl<L: Line> T1Line<L> {
     /// Joins an end and a line.
     pub fn new(end: T1, waits: T1Waits, line: L) -> T1Line<L> {
-        T1Line { end, waits, line }
+        T1Line {
+            end,
+            waits,
+            line,
+            known: Outcome::NotCarriedOut,
+        }
     }
 
     /// Passes blocks until the command has its response.
@@ -101,11 +109,17 @@ impl<L: Line> Transport for T1Line<L> {
         Level::Apdu
     }
 
+    fn follow(&mut self, known: Outcome) {
+        self.known = known;
+    }
+
     fn transmit(&mut self, sent: &[u8], answer: &mut [u8]) -> Result<usize, Self::Error> {
+        let known = replace(&mut self.known, Outcome::NotCarriedOut);
         self.end.begin(sent)?;
         let mut room = Wiped([0; BLOCK_LIMIT]);
         let passed = self.pass(&mut room.0);
-        if let Some(fault) = self.end.fault() {
+        if let Some(mut fault) = self.end.fault() {
+            fault.outcome = fault.outcome.max(known);
             return Err(fault.into());
         }
         passed?;

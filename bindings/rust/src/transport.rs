@@ -3,6 +3,7 @@
 use crate::card::Card;
 use crate::error::Error;
 use crate::exchange::Answer;
+use crate::t1::Outcome;
 use crate::terminal::{Operation, Terminal};
 use crate::whole::{ANSWER_LIMIT, APDU_LIMIT};
 use crate::wiped::Wiped;
@@ -61,6 +62,12 @@ pub trait Transport {
     ///
     /// Whatever the reader says. [`Terminal::run`] ends with it, and sends nothing more.
     fn transmit(&mut self, sent: &[u8], answer: &mut [u8]) -> Result<usize, Self::Error>;
+
+    /// Takes what is known of an operation before its next command, for an error of that.
+    /// [`Terminal::run`] calls it before each command but the first. Does nothing by default.
+    fn follow(&mut self, known: Outcome) {
+        let _ = known;
+    }
 }
 
 impl<E, F: FnMut(&[u8], &mut [u8]) -> Result<usize, E> + ?Sized> Transport for F {
@@ -123,6 +130,10 @@ where
     fn transmit(&mut self, sent: &[u8], answer: &mut [u8]) -> Result<usize, Self::Error> {
         self.0.transmit(sent, answer)
     }
+
+    fn follow(&mut self, known: Outcome) {
+        self.0.follow(known);
+    }
 }
 
 /// Why [`Terminal::run`] returned no answer. Text and source are those of the error in it.
@@ -184,10 +195,14 @@ impl Terminal {
     fn pass<T: Transport + ?Sized>(&mut self, reader: &mut T) -> Result<(), RunError<T::Error>> {
         let level = reader.level();
         let (mut sent, mut room) = (Wiped([0; APDU_LIMIT]), Wiped([0; ANSWER_LIMIT]));
+        let mut known = Outcome::NotCarriedOut;
         while let Some(due) = match level {
             Level::Tpdu => self.tpdu_into(&mut sent.0),
             Level::Apdu => self.apdu_into(&mut sent.0),
         }? {
+            if known != Outcome::NotCarriedOut {
+                reader.follow(known);
+            }
             // a reader that writes less than it claims hands back none of an earlier answer
             room.0.fill(0);
             let came = reader.transmit(&sent.0[..due.count], &mut room.0);
@@ -197,6 +212,7 @@ impl Terminal {
                 Level::Tpdu => self.answered(answer)?,
                 Level::Apdu => self.responded(answer)?,
             }
+            known = known.after(answer);
         }
         Ok(())
     }

@@ -1,10 +1,9 @@
 //! Tests both ends at T=1, and a line as a transport: its blocks, times and faults, by ISO/IEC
 //! 7816-3, clause 11.
 
-use galliumtoad::{CardBuilder, CardT1, Cause, Edc, Error, Level, Line, Operation, Outcome};
-use galliumtoad::{
-    RunError, T1Fault, T1Limits, T1Line, T1Waits, Terminal, Transport, BLOCK_LIMIT, T1,
-};
+use galliumtoad::{Application, CardBuilder, CardT1, Cause, Command, Edc, Error, Level, Line};
+use galliumtoad::{By, Operation, Outcome, OwnCard, Response, RunError, Status, T1Fault, T1Limits};
+use galliumtoad::{T1Line, T1Waits, Terminal, Transport, BLOCK_LIMIT, T1};
 use std::collections::VecDeque;
 use std::time::Duration;
 
@@ -253,5 +252,129 @@ fn an_end_has_limits() {
         line.waits.block = Duration::MAX;
         assert_eq!(response(&mut line).is_ok(), cause.is_none());
         assert_eq!(line.end.fault().map(|it| it.cause), cause);
+    }
+}
+
+/// Counts the commands that it carries out, and answers each with 300 bytes.
+struct Counter(u32);
+
+impl Application for Counter {
+    fn takes_data(&self, _: [u8; 4]) -> bool {
+        false
+    }
+
+    fn carry_out(&mut self, _: Command<'_>, response: &mut Response) -> Status {
+        self.0 += 1;
+        response.extend(&[0; 300]);
+        Status(0x9000)
+    }
+}
+
+/// A line to such a card, on which this many blocks of the terminal arrive, and no more.
+struct Losing {
+    card: CardT1<Counter>,
+    arrive: usize,
+    answer: Vec<u8>,
+}
+
+impl Line for Losing {
+    type Error = Fault;
+
+    fn send(&mut self, bytes: &[u8]) -> Result<(), Fault> {
+        let mut room = [0; BLOCK_LIMIT];
+        if self.arrive > 0 {
+            self.arrive -= 1;
+            self.card.receive(bytes)?;
+            let count = self.card.block_into(&mut room)?.expect("a block");
+            self.answer = room[..count].to_vec();
+        }
+        Ok(())
+    }
+
+    fn receive(&mut self, room: &mut [u8], _: Duration) -> Result<usize, Fault> {
+        let count = self.answer.len();
+        room[..count].copy_from_slice(&self.answer);
+        self.answer.clear();
+        Ok(count)
+    }
+}
+
+/// A line to a card whose IFSC is 4, so that each command takes two blocks.
+fn losing(arrive: usize) -> T1Line<Losing> {
+    let card = OwnCard::new(Counter(0)).and_then(CardT1::new);
+    let end = T1::new(Edc::Lrc, 4, T1Limits::default()).expect("an end");
+    let card = card.expect("a card");
+    let answer = Vec::new();
+    T1Line::new(
+        end,
+        WAITS,
+        Losing {
+            card,
+            arrive,
+            answer,
+        },
+    )
+}
+
+/// What is known after a command of Le 00, or `None` if it has its answer.
+fn outcome<L: Line<Error = Fault>>(line: &mut T1Line<L>) -> Option<Outcome> {
+    let mut terminal = Terminal::new().expect("memory");
+    match terminal.run(&mut By(line), Operation::Send(b"\x80\x10\x00\x00\x00")) {
+        Ok(_) => None,
+        Err(RunError::Transport(it)) => Some(it.downcast_ref::<T1Fault>().expect("it").outcome),
+        Err(it) => panic!("{it}"),
+    }
+}
+
+/// The blocks are S(IFS request), two of the command, R for the rest of 256 bytes, and two of GET
+/// RESPONSE. The last command may not be carried out, although the card has counted.
+#[test]
+fn a_fault_speaks_of_the_operation() {
+    use Outcome::{InPart, NotCarriedOut, Unknown};
+    let told = [
+        NotCarriedOut,
+        NotCarriedOut,
+        Unknown,
+        InPart,
+        InPart,
+        InPart,
+    ];
+    for (arrive, wanted) in told.into_iter().enumerate() {
+        let mut line = losing(arrive);
+        assert_eq!(outcome(&mut line), Some(wanted), "{arrive} blocks arrive");
+        let count = line.line.card.card().application().0;
+        assert_eq!(count, u32::from(arrive > 2));
+    }
+    // the next operation, and a command alone, are another matter
+    for is_alone in [false, true] {
+        let mut line = losing(told.len());
+        assert_eq!(outcome(&mut line), None);
+        let found = if is_alone {
+            let fault = line.transmit(GET, &mut [0; 258]).expect_err("it is lost");
+            fault.downcast_ref::<T1Fault>().map(|it| it.outcome)
+        } else {
+            outcome(&mut line)
+        };
+        assert_eq!(found, Some(NotCarriedOut));
+        assert_eq!(line.line.card.card().application().0, 1);
+    }
+}
+
+/// After `6CXX` a card may have carried the command out, or not. After `61XX` it has.
+#[test]
+fn a_command_that_goes_again_may_be_carried_out() {
+    let [next, more] = [block(0x90, b""), block(0x00, b"\x61\x03")];
+    let [again, again_later] = [0x00, 0x40].map(|pcb| block(pcb, b"\x6C\x03"));
+    let fetches: &[&[u8]] = &[&ifs(), &next, &more, &next, &again_later, b"", b""];
+    let repeats: &[&[u8]] = &[&ifs(), &next, &again, b"", b""];
+    for (answers, wanted) in [(repeats, Outcome::Unknown), (fetches, Outcome::InPart)] {
+        let mut line = line(answers, 300);
+        let limits = T1Limits {
+            tries: 1,
+            ..T1Limits::default()
+        };
+        line.end = T1::new(Edc::Lrc, 4, limits).expect("an end");
+        assert_eq!(outcome(&mut line), Some(wanted));
+        assert!(line.line.answers.is_empty());
     }
 }

@@ -23,8 +23,8 @@ class Code(enum.IntEnum):
 
 
 class Outcome(enum.IntEnum):
-    """Whether a card carried out the command at which an end at T=1 gave up. With IN_PART it did,
-    and only a part of the response arrived."""
+    """Whether a card carried out the command at which an end at T=1 gave up, or its operation. With
+    IN_PART it did, and only a part of the response arrived."""
 
     NOT_CARRIED_OUT, UNKNOWN, IN_PART = range(3)
 
@@ -109,7 +109,8 @@ class PpsError(Error):
 
 class BlockError(Error):
     """A terminal's end at T=1 gave up, and `code` says why: GT_TRIES_SPENT, GT_EXTENSIONS_SPENT,
-    GT_ABORTED or GT_TOO_LONG. `outcome` is an `Outcome`."""
+    GT_ABORTED or GT_TOO_LONG. `outcome` is the `Outcome` of the command, from `Terminal.run` that of
+    the operation: GET RESPONSE belongs to a command that the card has carried out."""
 
     def __init__(self, code: int, outcome: Optional[int] = None) -> None:
         super().__init__(code)

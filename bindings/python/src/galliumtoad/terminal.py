@@ -6,7 +6,7 @@ from typing import Any, Callable, NamedTuple, Optional, Protocol, Union
 
 from ._library import ffi, lib
 from .answers import Answer, Edc, Status
-from .errors import BlockError
+from .errors import BlockError, Outcome
 from .handle import Bytes, Handle, Lasting, copied, readable, shown, tag_number, within, writable
 
 Line = Callable[[bytes, int], Bytes]
@@ -266,7 +266,7 @@ class Terminal(Machine, Lasting):
         - as `begin`: nothing was sent, and nothing has changed.
         - once the operation has begun: what the transport raises, TypeError if it returns something
           other than bytes, or as `answered` and `apdu`. The terminal is reset. What the card has
-          done is unknown, so reset it too.
+          done is unknown, so reset it too. `BlockError.outcome` becomes that of the operation.
         """
         level = getattr(transport, "level", Level.TPDU if hasattr(transport, "__name__") else None)
         if not (callable(transport) and isinstance(level, Level)):
@@ -274,11 +274,17 @@ class Terminal(Machine, Lasting):
             raise TypeError(f"{name} is neither a function nor a callable with a `level`, a Level")
         self.begin(operation)
         due, take = ("apdu", "responded") if level is Level.APDU else ("tpdu", "answered")
+        known = Outcome.NOT_CARRIED_OUT
         try:
             while (asked := self._due(due)) is not None:
-                self._done(take, readable(transport(asked.data)))
+                came, n = readable(transport(asked.data))
+                self._done(take, (came, n))
+                # 61XX announces the response of a command that the card has carried out
+                known = max(known, Outcome.IN_PART if came[n - 2] == 0x61 else Outcome.UNKNOWN)
             answer = self.answer()
-        except BaseException:
+        except BaseException as error:
+            if isinstance(error, BlockError):
+                error.outcome = max(known, error.outcome)
             self.reset()
             raise
         assert answer is not None, "an operation with nothing due has ended"

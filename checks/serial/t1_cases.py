@@ -315,8 +315,8 @@ def resets_itself():
 
 
 def outcomes():
-    """What a fault says of a command whose first command the card has carried out. The IFSC is 4, so
-    that each command takes two blocks."""
+    """What a fault says of an operation whose first command may be carried out, or not. The IFSC is
+    4, so that each command takes two blocks."""
     first = f"< {IFSC_4} {OPEN}"
     command = talk(">", "20:80100000", "<", "90", ">", "40:00")
     lost, lost_again = talk(*[">", "92"] * 4), talk(*[">", "82"] * 4)

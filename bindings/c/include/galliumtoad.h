@@ -1404,9 +1404,9 @@ GT_MUST_CHECK int32_t gt_t1_response(gt_t1 *t, uint8_t *response, size_t room, s
  * GT_TOO_LONG. `outcome` gets what is known of the command: GT_NOT_CARRIED_OUT, GT_UNKNOWN or
  * GT_IN_PART. From then on a command can start only after `gt_t1_reset`, after a reset of the card.
  *
- * An operation may need more commands than its first. The card has carried it out (GT_IN_PART) if a
- * response before this command was 61XX: GET RESPONSE fetches, and may be GT_NOT_CARRIED_OUT itself.
- * After any other response GT_NOT_CARRIED_OUT is GT_UNKNOWN of the operation.
+ * An operation may need several commands. If a response before this one was 61XX, the card has
+ * carried the operation out (GT_IN_PART): GET RESPONSE fetches, and may be GT_NOT_CARRIED_OUT
+ * itself. After any other response GT_NOT_CARRIED_OUT is GT_UNKNOWN of the operation.
  *
  * After S(ABORT request) `gt_t1_send_bytes` gives S(ABORT response). The end gives up with
  * GT_ABORTED at the next reception, whatever that is, `gt_t1_missed` or `gt_t1_damaged`. If the

@@ -168,20 +168,20 @@ const char *line_drop(struct line *line, int64_t first, int64_t quiet)
     return "the other end does not stop sending";
 }
 
-/* How many characters have come since this end sent. */
+/* How many characters were received since this end sent. */
 static size_t heard_since(const struct line *line)
 {
     return line->heard_count - line->heard_before;
 }
 
-/* Whether these came first, as far as both go. */
+/* Whether these were received first, as far as both go. */
 static bool agrees(const struct line *line, const uint8_t *bytes, size_t n)
 {
     const size_t both = n < heard_since(line) ? n : heard_since(line);
     return both > 0 && memcmp(line->heard + line->heard_before, bytes, both) == 0;
 }
 
-/* Whether these came first. Once they have begun, each byte may take this long. */
+/* Whether these were received first. Once they have begun, each byte may take this long. */
 static bool hears(struct line *line, const uint8_t *bytes, size_t n, int64_t wait)
 {
     size_t before = 0;

@@ -117,11 +117,11 @@ const char *line_await_quiet(struct line *line);
  * followed for LINE_ECHO_LATE. */
 const char *line_refuse_echo(struct line *line, size_t n, int64_t wait);
 
-/* Over a line without echo, refuses any byte of the card within this time, if what came since begins
- * as what was sent. That is no answer of the card then, but an echo before it. */
+/* Over a line without echo, refuses any byte of the card within this time, if the bytes before it
+ * begin as those sent last. They are no answer of the card then, but an echo. */
 const char *line_refuse_more(struct line *line, int64_t wait);
 
-/* Whether what was sent over a line without echo was the first to come since. The rest of an echo
+/* Whether the bytes sent last over a line without echo were received first. The rest of an echo
  * that has begun is awaited. */
 bool line_hears_echo(struct line *line);
 
@@ -129,7 +129,7 @@ bool line_hears_echo(struct line *line);
  * that has reset itself sends no more than that. */
 bool line_ends_as_answer(const struct line *line);
 
-/* The same, or whether the answer to reset was the first to come. The rest of one that has begun is
+/* The same, or whether the answer to reset was received first. The rest of one that has begun is
  * awaited. */
 bool line_hears_answer(struct line *line);
 

@@ -72,8 +72,8 @@ static const char *give_up(struct t1_end *t1, int32_t known)
     return tell(gt_text(cause), known, outcome);
 }
 
-/* Receives the card's block after a sent one. After a lost I-block an R-block may be the same as the
- * one before it. */
+/* Receives the card's block after a sent one. R-blocks of both ends may be the same, after a lost
+ * I-block. */
 static const char *receive(struct t1_end *t1, const uint8_t *sent, size_t n, int64_t wait,
                            struct t1_block *block)
 {

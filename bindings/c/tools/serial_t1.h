@@ -33,8 +33,8 @@ const char *t1_receive(struct line *line, const struct t1_times *times, int64_t 
                        struct t1_block *block);
 
 /* Carries a command to the card, and its response back. `known` is what is known of its operation
- * before that: GT_NOT_CARRIED_OUT, GT_UNKNOWN or GT_IN_PART. Returns NULL, or why it failed, and what
- * is known of the operation then; the text stays until the next call. */
+ * before that: GT_NOT_CARRIED_OUT, GT_UNKNOWN or GT_IN_PART. Returns NULL, or why it failed, and
+ * what is known of the operation then; the text stays until the next call. */
 const char *t1_carry(struct t1_end *t1, const uint8_t *apdu, size_t n, int32_t known,
                      uint8_t response[GT_ANSWER_LIMIT], size_t *len);
 

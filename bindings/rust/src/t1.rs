@@ -31,8 +31,8 @@ codes! {
     }
 }
 
-/// What is known of a command if a terminal's end at T=1 gave up; of an operation the latest of what
-/// is known of its commands.
+/// What is known of a command if a terminal's end at T=1 gave up. Later ones say more of the
+/// operation that it belongs to.
 #[derive(Clone, Copy, Debug, PartialEq, Eq, PartialOrd, Ord, Hash)]
 #[non_exhaustive]
 pub enum Outcome {

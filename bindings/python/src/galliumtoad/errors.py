@@ -109,8 +109,8 @@ class PpsError(Error):
 
 class BlockError(Error):
     """A terminal's end at T=1 gave up, and `code` says why: GT_TRIES_SPENT, GT_EXTENSIONS_SPENT,
-    GT_ABORTED or GT_TOO_LONG. `outcome` is the `Outcome` of the command, from `Terminal.run` that of
-    the operation: GET RESPONSE belongs to a command that the card has carried out."""
+    GT_ABORTED or GT_TOO_LONG. `outcome` is the `Outcome` of the command, or from `Terminal.run`
+    that of the operation: GET RESPONSE belongs to a command that the card has carried out."""
 
     def __init__(self, code: int, outcome: Optional[int] = None) -> None:
         super().__init__(code)

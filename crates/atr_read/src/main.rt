@@ -14,7 +14,8 @@ use std::io::{BufRead, BufReader, Write};
 use std::process::ExitCode;
 use std::{env, io};
 
-const VERSION: &str = "1.0";
+/// What `--version` prints after the program's name.
+const VERSION: &str = "0.3.0";
 
 const ABOUT: &str = "Prints what answers to reset mean (ISO/IEC 7816-3), or what is wrong.";
 

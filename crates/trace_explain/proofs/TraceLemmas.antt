@@ -418,6 +418,7 @@ ended_stops Q (fault.Resumed m c) ended explained = tt
 ended_stops Q (fault.BadPairs n m why) ended explained = tt
 ended_stops Q (fault.Skipped line place) ended explained = tt
 ended_stops Q (fault.NothingWhole line note) ended explained = tt
+ended_stops Q (fault.NoValidBlock invalid) ended explained = tt
 ended_stops Q other ended explained = absurd ended
 
 -- What is shown of the reports.

@@ -103,12 +103,14 @@ abbrev pub KeepsLimit : {T : Type 0} → List ℕ → Result T ExplainFault → 
 KeepsLimit bytes (Ok x) = length bytes ≤ 1099511627776
 KeepsLimit bytes (Err f) = IsOver bytes f
 
--- The faults at the end: it resumed after one, skipped characters of no known sender, or got none.
+-- The faults at the end: it resumed after one, skipped characters of no known sender, got none, or
+-- got nothing whole.
 abbrev pub IsOfEnd : ExplainFault → Bool → Type 0
 IsOfEnd (fault.Resumed complaints first) has_characters = Unit {0}
 IsOfEnd (fault.BadPairs complaints line why) has_characters = Unit {0}
 IsOfEnd (fault.Skipped line place) has_characters = Unit {0}
 IsOfEnd (fault.NothingWhole line note) has_characters = Unit {0}
+IsOfEnd (fault.NoValidBlock invalid) has_characters = Unit {0}
 IsOfEnd (fault.NoForm line note) has_characters = has_characters ≡ false
 IsOfEnd fault.NoCharacters has_characters = has_characters ≡ false
 IsOfEnd other has_characters = ⊥
@@ -160,6 +162,7 @@ IsOfLines fault.Write = ⊥
 IsOfLines fault.Closed = ⊥
 IsOfLines fault.InputTooLong = ⊥
 IsOfLines (fault.NothingWhole line note) = ⊥
+IsOfLines (fault.NoValidBlock invalid) = ⊥
 IsOfLines fault.NoCharacters = ⊥
 IsOfLines (fault.NoForm line note) = ⊥
 IsOfLines other = Unit {0}

@@ -251,6 +251,7 @@ fn option<'a>(
         .value_names(names)
         .num_args(least..=names.len())
         .value_parser(parser)
+        .hide_possible_values(matches!(takes, Takes::Form))
         .requires_all(needs)?
         .conflicts_with_all(excludes)
 }

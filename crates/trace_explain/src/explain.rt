@@ -33,9 +33,9 @@ pub const CHUNK: usize = 16_384;
 ///
 /// # Errors
 ///
-/// The first fault; `Resumed`, `BadPairs`, `Skipped` and `NothingWhole` come only after the whole
-/// trace. But if the writer then fails, or memory runs out, it is that. What precedes the fault is
-/// written, with the last block, unless the writer failed or memory ran out.
+/// The first fault. `Resumed`, `BadPairs`, `Skipped`, `NothingWhole` and `NoValidBlock` come only
+/// after the whole trace. But if the writer then fails, or memory runs out, it is that. What
+/// precedes the fault is written, with the last block, unless the writer failed or memory ran out.
 pub fn explain<R: Read, W: Sink>(
     alloc: Global,
     layout: Layout,

@@ -66,6 +66,12 @@ pub enum ExplainFault {
         line: u64,
         note: Excerpt,
     },
+    /// The trace has ended, and no block of T=1 was valid. This many were damaged, or cut off by the
+    /// other end.
+    #[error("no valid block of T=1 (invalid: {invalid})")]
+    NoValidBlock {
+        invalid: u64,
+    },
     /// The trace has ended, and no line has a character of either end. This is the first line with
     /// bytes.
     #[error("line {line}: no form reads this line with bytes; try `--form`, `--tpdu` or \

@@ -407,6 +407,7 @@ impl Explainer {
     /// - `Resumed`: it continued after unexpected characters.
     /// - `Skipped`: it passed over what follows an invalid answer to reset.
     /// - `NoCharacters`, `NoForm`: no line has a character of either end.
+    /// - `NoValidBlock`: they have blocks, and no valid one.
     /// - `NothingWhole`: they have a note, and no whole TPDU, answer to reset or PPS.
     pub fn outcome(&self) -> Result<(), ExplainFault>
         ensures has_characters { OnOk result (self.now.has_characters ≡ true) }
@@ -427,12 +428,23 @@ impl Explainer {
                 Some((line, note)) => ExplainFault::NoForm { line, note },
                 None => ExplainFault::NoCharacters,
             }),
-            (None, None) => match self.teller.first_note {
-                Some((line, note)) if !self.teller.has_whole() => {
-                    Err(ExplainFault::NothingWhole { line, note })
-                }
-                _ => Ok(()),
-            },
+            (None, None) => self.outcome_of_whole(),
+        }
+    }
+
+    /// Returns an error if the lines have no valid block, or no whole TPDU.
+    fn outcome_of_whole(&self) -> Result<(), ExplainFault>
+        ensures { IfErr result (λ fault. IsOfEnd fault self.now.has_characters) }
+    {
+        let invalid = self.teller.counts.invalid_alone();
+        if invalid > 0 {
+            return Err(ExplainFault::NoValidBlock { invalid });
+        }
+        match self.teller.first_note {
+            Some((line, note)) if !self.teller.has_whole() => {
+                Err(ExplainFault::NothingWhole { line, note })
+            }
+            _ => Ok(()),
         }
     }
 

@@ -74,6 +74,11 @@ impl BlockRow {
         matches!(self.kind, BlockKind::Damaged(..))
     }
 
+    /// Whether it is a valid block.
+    pub fn is_valid(&self) -> bool {
+        !matches!(self.kind, BlockKind::Damaged(..) | BlockKind::Part)
+    }
+
     /// Whether bytes are missing: of the block, or a block before it.
     pub fn is_lossy(&self) -> bool {
         matches!(self.kind, BlockKind::Part) || matches!(self.role, Role::Unknown)

@@ -45,6 +45,10 @@ pub struct Counts {
     statuses: BTreeMap<u16, Seen>,
     /// Blocks at T=1, as `BLOCK_WORDS` names them.
     blocks: [u64; 4],
+    /// Whether one of them was valid.
+    has_block: bool,
+    /// Those that ended and were invalid: damaged, or cut off by the other end.
+    invalid: u64,
     complaints: u64,
     /// Protocol errors, and answers to reset at fault.
     faults: u64,
@@ -66,6 +70,8 @@ impl Counts {
             unnamed: BTreeMap::new(alloc),
             statuses: BTreeMap::new(alloc),
             blocks: [0; 4],
+            has_block: false,
+            invalid: 0,
             complaints: 0,
             faults: 0,
             fault_lines: [0; FAULT_LINKS],
@@ -81,6 +87,11 @@ impl Counts {
     /// Whether a whole TPDU was counted.
     pub fn has_whole(&self) -> bool {
         self.tpdus > self.cut_off
+    }
+
+    /// The number of invalid blocks, if no block was valid; otherwise 0.
+    pub fn invalid_alone(&self) -> u64 {
+        if self.has_block { 0 } else { self.invalid }
     }
 
     /// Counts a protocol error in this line. Returns the name of its box.
@@ -144,6 +155,13 @@ impl Counts {
         for (count, is) in self.blocks.iter_mut().zip(kinds) {
             *count = count.saturating_add(u64::from(is));
         }
+    }
+
+    /// Counts a block at T=1 that has ended.
+    pub fn take_ended(&mut self, row: BlockRow) {
+        self.take_block(row);
+        self.has_block |= row.is_valid();
+        self.invalid = self.invalid.saturating_add(u64::from(!row.is_valid()));
     }
 
     /// Counts the command of a TPDU.

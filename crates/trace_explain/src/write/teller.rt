@@ -326,7 +326,7 @@ impl Teller {
     {
         self.begin_if(blocks.begins());
         if let Some(row) = blocks.newest {
-            self.counts.take_block(row);
+            self.counts.take_ended(row);
         }
     }
 

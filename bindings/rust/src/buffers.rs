@@ -18,7 +18,8 @@ pub struct Sent {
 /// Why an end hands no more into a buffer.
 #[derive(Clone, Copy, Debug, PartialEq, Eq, Hash)]
 pub enum Stop {
-    /// The buffer is full, as one without room is at once: there may be more.
+    /// The buffer is full, as one without room is at once, or a card's NULL comes alone, since its
+    /// application needs [more time](crate::Application::more_time): there may be more.
     Full,
     /// The end waits for a character of the other one.
     Listens,
@@ -52,7 +53,7 @@ impl<A: Application> Card<A> {
     #[inline]
     pub fn send_bytes(&mut self, room: &mut [u8]) -> Result<Sent, Error> {
         let mut count = 0;
-        let code = self.run(|card| {
+        let code = self.run(true, |card| {
             let mut n = 0;
             let code = card.galliumtoad_card_send_bytes(&mut room[count..], &mut n);
             count += n;

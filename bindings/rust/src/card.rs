@@ -178,7 +178,8 @@ impl<A: Application> Card<A> {
 
     /// Returns what the card does now: [`Turn::Sends`] a character, or [`Turn::Listens`]. A
     /// character that it returns counts as sent. A put is stored when the second status byte has
-    /// been handed out, not before.
+    /// been handed out, not before. A NULL (`60`) keeps the terminal waiting for an application of
+    /// your own that needs [more time](Application::more_time).
     ///
     /// # Errors
     ///
@@ -187,7 +188,7 @@ impl<A: Application> Card<A> {
     #[inline]
     pub fn turn(&mut self) -> Result<Turn, Error> {
         let mut byte = 0;
-        let code = self.run(|card| card.galliumtoad_card_turn(&mut byte))?;
+        let code = self.run(true, |card| card.galliumtoad_card_turn(&mut byte))?;
         Ok(turned(code, byte))
     }
 

@@ -92,7 +92,8 @@ impl<A: Application> CardT1<A> {
     /// [`missed`](CardT1::missed) or [`damaged`](CardT1::damaged), or if
     /// [`receive`](CardT1::receive) ran out of memory at the last block. Each further call gives
     /// the same block, until the terminal's next one, `missed`, `damaged` or
-    /// [`reset`](CardT1::reset).
+    /// [`reset`](CardT1::reset). It is S(WTX request) if an application of your own needs
+    /// [more time](Application::more_time).
     ///
     /// # Errors
     ///
@@ -105,7 +106,7 @@ impl<A: Application> CardT1<A> {
     pub fn block_into(&mut self, room: &mut [u8]) -> Result<Option<usize>, Error> {
         let mut count = 0;
         let sends = |card: &Handle<_>| card.galliumtoad_card_t1_send_bytes(room, &mut count);
-        let code = self.0.run(sends)?;
+        let code = self.0.run(true, sends)?;
         Ok((code != raw::DONE).then_some(count))
     }
 

@@ -101,6 +101,7 @@ declared! { of Card;
     fn galliumtoad_card_command(c: At, command: *mut Command) -> i32;
     fn galliumtoad_card_direction(c: At, to_card: bool) -> i32;
     fn galliumtoad_card_respond(c: At, data: In, n: usize, status: u16) -> i32;
+    fn galliumtoad_card_more_time(c: At, multiple: u8) -> i32;
     fn galliumtoad_card_settled(c: At) -> i32;
     fn galliumtoad_card_plan(c: At, steps: In, n: usize, cut: u16) -> i32;
     fn galliumtoad_card_selected(c: At, aid: Out, room: usize, n: Count) -> i32;

@@ -65,6 +65,21 @@ pub trait Application {
     /// `9X`, and any byte. It is not `61XX` or `6CXX`, which are the card's own.
     fn carry_out(&mut self, command: Command<'_>, response: &mut Response) -> Status;
 
+    /// How many times BWT, 1 to 255, the terminal waits at least before this is asked again, at T=0
+    /// WWT for any number. 0, the default, if [`carry_out`](Application::carry_out) may begin.
+    ///
+    /// Each other number sends one NULL (`60`) at T=0, and S(WTX request) at T=1. So begin the work
+    /// at the first call, and wait in each for less time than the terminal does. A terminal at T=1
+    /// may drop the command meanwhile, and send another: compare it. A whole TPDU or command needs
+    /// no more time, and comes to [`carry_out`](Application::carry_out) alone.
+    ///
+    /// ```
+    #[doc = include_str!("../examples/slow.rs")]
+    /// ```
+    fn more_time(&mut self, _: Command<'_>) -> u8 {
+        0
+    }
+
     /// The last command takes effect, with SW2 of its TPDU, also if that is `61XX` or `6CXX`. A
     /// whole command takes effect when it is carried out.
     fn settle(&mut self) {}
@@ -166,10 +181,12 @@ impl<A: Application> Card<A> {
         &mut self.1.application
     }
 
-    /// Calls a function of the archive until nothing waits for the application.
+    /// Calls a function of the archive until nothing waits for the application, or until that needs
+    /// more time, if it `can_wait`.
     #[inline]
     pub(crate) fn run(
         &mut self,
+        can_wait: bool,
         mut call: impl FnMut(&Handle<raw::Card>) -> i32,
     ) -> Result<i32, Error> {
         let first = told(call(&self.0));
@@ -179,7 +196,7 @@ impl<A: Application> Card<A> {
         let mut code = first?;
         let resets = Resets(self);
         while let raw::HEADER | raw::COMMAND = code {
-            resets.0.ask(code == raw::HEADER)?;
+            resets.0.ask(code == raw::HEADER, can_wait)?;
             code = match told(call(&resets.0 .0)) {
                 // at T=1, with too short a room: the block stays
                 Err(Error::Buffer) => raw::BUFFER,
@@ -192,7 +209,7 @@ impl<A: Application> Card<A> {
     }
 
     /// Asks the application about the header or the command that waits.
-    fn ask(&mut self, is_header: bool) -> Result<(), Error> {
+    fn ask(&mut self, is_header: bool, can_wait: bool) -> Result<(), Error> {
         // SAFETY: numbers alone, whose bytes may be 0.
         let mut waits = unsafe { zeroed::<raw::Command>() };
         done(self.0.galliumtoad_card_command(&mut waits))?;
@@ -203,6 +220,12 @@ impl<A: Application> Card<A> {
         }
         let (data, le) = (&waits.data[..waits.size.into()], waits.le.into());
         let command = Command { header, data, le };
+        if can_wait {
+            let multiple = own.application.more_time(command);
+            if multiple > 0 {
+                return done(self.0.galliumtoad_card_more_time(multiple));
+            }
+        }
         let Status(word) = own.application.carry_out(command, &mut own.response);
         let data = own.response.room.get(..own.response.count);
         let data = data.ok_or(Error::Argument)?;

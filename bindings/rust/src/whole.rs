@@ -153,7 +153,7 @@ impl<A: Application> Card<A> {
     fn carry_out(&mut self, call: Carries, sent: &[u8], room: &mut [u8]) -> Result<usize, Error> {
         let (mut sent, mut count) = (sent, 0);
         // what waits continues without bytes
-        self.run(|card| call(card, take(&mut sent), room, &mut count))?;
+        self.run(false, |card| call(card, take(&mut sent), room, &mut count))?;
         Ok(count)
     }
 }

@@ -2,7 +2,7 @@
 //! 7816-3 and 7816-4 and the rules of the card.
 
 use galliumtoad::{Application, CardT1, Command, Edc, Error, Exchange, OwnCard, Response, Status};
-use galliumtoad::{T1Limits, Turn, BLOCK_LIMIT, T1};
+use galliumtoad::{Stop, T1Limits, Turn, BLOCK_LIMIT, T1};
 use std::cell::{Cell, RefCell};
 use std::panic::{catch_unwind, set_hook, take_hook, AssertUnwindSafe};
 
@@ -11,6 +11,7 @@ use std::panic::{catch_unwind, set_hook, take_hook, AssertUnwindSafe};
 enum Fails {
     Nowhere,
     Header,
+    Time,
     Command,
     Settling,
 }
@@ -20,17 +21,21 @@ enum Fails {
 enum Step {
     /// A header: do data follow?
     Asked([u8; 4]),
+    /// A command for which it asked for more time: header, data, Le and the multiple.
+    Waits([u8; 4], Vec<u8>, usize, u8),
     /// A command that it carried out: header, data and Le.
     Did([u8; 4], Vec<u8>, usize),
     Settled,
     Reset,
 }
-use Step::{Asked, Did, Reset, Settled};
+use Step::{Asked, Did, Reset, Settled, Waits};
 
 /// INS A4 and D6 take data. P1-P2 is the number of bytes of a response: to B0 and A4 9000 follows
-/// them, to B2 6283. D6 has none: 9000. P1-P2 of 5A is the status.
+/// them, to B2 6283. D6 has none: 9000. P1-P2 of 5A is the status. It asks as often for more time as
+/// `multiple` says, which counts down.
 struct Probe {
     steps: RefCell<Vec<Step>>,
+    multiple: u8,
     fails: Cell<Fails>,
 }
 
@@ -50,6 +55,17 @@ impl Application for Probe {
         self.log(Asked(header));
         assert!(self.fails.get() != Fails::Header, "planned");
         matches!(header[1], 0xA4 | 0xD6)
+    }
+
+    fn more_time(&mut self, command: Command<'_>) -> u8 {
+        assert!(self.fails.get() != Fails::Time, "planned");
+        let multiple = self.multiple;
+        if multiple > 0 {
+            let data = command.data.to_vec();
+            self.log(Waits(command.header, data, command.le, multiple));
+            self.multiple -= 1;
+        }
+        multiple
     }
 
     fn carry_out(&mut self, command: Command<'_>, response: &mut Response) -> Status {
@@ -87,7 +103,13 @@ type Own = OwnCard<Probe>;
 
 fn own() -> Own {
     let (steps, fails) = (Vec::new().into(), Fails::Nowhere.into());
-    OwnCard::new(Probe { steps, fails }).expect("memory")
+    let multiple = 0;
+    OwnCard::new(Probe {
+        steps,
+        multiple,
+        fails,
+    })
+    .expect("memory")
 }
 
 /// What reached the application since the last call, without headers.
@@ -208,6 +230,98 @@ fn at_t1() {
     assert_eq!(talked(&mut card, b"\x00\xC0\x00\x00\x01"), b"\x69\x85");
 }
 
+const UPDATE: &[u8] = b"\x00\xD6\x00\x00\x01A";
+const HEADER: [u8; 4] = [0, 0xD6, 0, 0];
+
+/// An UPDATE BINARY for which a card asks twice for more time.
+fn waited() -> Vec<Step> {
+    let waits = |multiple| Waits(HEADER, b"A".to_vec(), 0, multiple);
+    [vec![waits(2), waits(1)], done(HEADER, b"A", 0)].concat()
+}
+
+/// What a card hands out in each buffer, until it listens.
+fn buffers(card: &mut Own) -> Vec<Vec<u8>> {
+    let (mut room, mut sent) = ([0; 9], vec![]);
+    loop {
+        let got = card.send_bytes(&mut room).expect("a card");
+        sent.push(room[..got.count].to_vec());
+        if got.stop == Stop::Listens {
+            return sent;
+        }
+    }
+}
+
+/// A NULL for each time that the application asks, and then the answer (ISO/IEC 7816-3, 10.3.3).
+#[test]
+fn more_time_by_characters() {
+    let mut card = own();
+    card.application_mut().multiple = 2;
+    assert_eq!(talked(&mut card, UPDATE), b"\x90\x00");
+    assert_eq!(steps(&card), waited());
+    card.application_mut().multiple = 2;
+    card.receive_bytes(&UPDATE[..5]).expect("listens");
+    assert_eq!(buffers(&mut card), [b"\xD6"]);
+    card.receive_bytes(&UPDATE[5..]).expect("listens");
+    assert_eq!(buffers(&mut card), [&b"\x60"[..], b"\x60", b"\x90\x00"]);
+    assert_eq!(steps(&card), waited());
+}
+
+/// A reset drops the NULL and the command.
+#[test]
+fn a_reset_while_the_application_has_more_time() {
+    let mut card = own();
+    card.application_mut().multiple = 3;
+    card.receive_bytes(b"\x00\xB0\x00\x02\x02")
+        .expect("listens");
+    assert_eq!(card.turn(), Ok(Turn::Sends(0x60)));
+    card.reset().expect("a card");
+    let waits = Waits([0, 0xB0, 0, 2], vec![], 2, 3);
+    assert_eq!(steps(&card), [waits, Reset]);
+    assert_eq!(talked(&mut card, UPDATE), b"\x90\x00");
+    assert_eq!(steps(&card), waited());
+}
+
+/// A whole TPDU or command is carried out at once.
+#[test]
+fn no_more_time_for_what_came_whole() {
+    let mut card = own();
+    card.application_mut().multiple = 2;
+    for way in [OwnCard::tpdu, OwnCard::apdu] {
+        assert_eq!(way(&mut card, UPDATE), Ok(b"\x90\x00".to_vec()));
+        assert_eq!(steps(&card), done(HEADER, b"A", 0));
+    }
+}
+
+/// A block: NAD 00, PCB, LEN, the field and the LRC.
+fn block(pcb: u8, field: &[u8]) -> Vec<u8> {
+    let mut bytes = [&[0, pcb, field.len() as u8], field].concat();
+    bytes.push(bytes.iter().fold(0, |sum, byte| sum ^ byte));
+    bytes
+}
+
+/// S(WTX request) with the multiple, again after a block that is lost (ISO/IEC 7816-3, 11.6.2.3).
+#[test]
+fn more_time_at_t1() {
+    let mut card = own();
+    card.application_mut().multiple = 2;
+    let mut card = CardT1::new(card).expect("a card");
+    let _ = steps(card.card());
+    let mut room = [0; BLOCK_LIMIT];
+    for (came, answer) in [
+        (block(0x00, UPDATE), block(0xC3, &[2])),
+        (vec![], block(0xC3, &[2])),
+        (block(0xE3, &[2]), block(0xC3, &[1])),
+        (block(0xE3, &[1]), block(0x00, b"\x90\x00")),
+    ] {
+        if !card.receive(&came).expect("bytes").is_whole {
+            card.missed().expect("a card");
+        }
+        let count = card.block_into(&mut room).expect("a card");
+        assert_eq!(room[..count.expect("a block")], answer);
+    }
+    assert_eq!(steps(card.card()), waited());
+}
+
 /// Both ends would deadlock: the card is reset, and its application once.
 #[test]
 fn deadlocks() {
@@ -263,8 +377,8 @@ fn settling() {
 /// are is proved.
 #[test]
 fn what_no_application_answers() {
-    interrupted(b"\x00\x5A\x61\x00\x05", |_| Some(Error::Argument));
-    interrupted(b"\x00\xB0\x10\x01\x05", |_| Some(Error::Argument));
+    interrupted(&calls(), b"\x00\x5A\x61\x00\x05", |_| Some(Error::Argument));
+    interrupted(&calls(), b"\x00\xB0\x10\x01\x05", |_| Some(Error::Argument));
     let answer = talked(&mut own(), b"\x00\x5A\x9F\xFF\x05");
     assert_eq!(answer, [0x9F, 0xFF]);
 }
@@ -277,8 +391,13 @@ fn panics() {
             eprintln!("{text}");
         }
     }));
-    for fails in [Fails::Header, Fails::Command, Fails::Settling] {
-        interrupted(b"\x00\xB0\x00\x05\x05", |card| {
+    for (fails, ways) in [
+        (Fails::Header, &calls()[..]),
+        (Fails::Time, &calls()[..2]), // the others ask for none
+        (Fails::Command, &calls()[..]),
+        (Fails::Settling, &calls()[..]),
+    ] {
+        interrupted(ways, b"\x00\xB0\x00\x05\x05", |card| {
             card.fails.set(fails);
             None
         });
@@ -307,10 +426,8 @@ fn calls() -> [Way; 4] {
 }
 
 /// Has the application fail in this command, by each way: the card is as after a reset.
-fn interrupted(command: &[u8], prepare: impl Fn(&Probe) -> Option<Error>) {
-    let update = b"\x00\xD6\x00\x00\x01A";
-    let fine = || done([0, 0xD6, 0, 0], b"A", 0);
-    for call in calls() {
+fn interrupted(ways: &[Way], command: &[u8], prepare: impl Fn(&Probe) -> Option<Error>) {
+    for call in ways {
         let mut card = own();
         let waits = talked(&mut card, b"\x00\xB0\x00\x05\x03");
         assert_eq!(waits.len(), 5);
@@ -321,7 +438,7 @@ fn interrupted(command: &[u8], prepare: impl Fn(&Probe) -> Option<Error>) {
         card.application_mut().fails = Fails::Nowhere.into();
         assert_eq!(steps(&card).iter().filter(|it| **it == Reset).count(), 1);
         assert_eq!(talked(&mut card, b"\x00\xC0\x00\x00\x02"), b"\x69\x85");
-        assert_eq!(talked(&mut card, update), b"\x90\x00");
-        assert_eq!(steps(&card), fine());
+        assert_eq!(talked(&mut card, UPDATE), b"\x90\x00");
+        assert_eq!(steps(&card), done(HEADER, b"A", 0));
     }
 }

@@ -103,6 +103,8 @@ pin
   [D6]
   [90, 00]
   [B0, 4A, 4F, 45, 90, 00]
+slow
+  [10, 02, 90, 00] after NULLs: true
 ";
 
 #[test]

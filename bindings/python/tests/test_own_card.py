@@ -4,10 +4,13 @@
 import itertools
 import threading
 from functools import partial
+from types import SimpleNamespace
 
 import pytest
 from galliumtoad import (T1, Application, CallError, Command, CommandError, OwnCard, Session,
-                         TransportError)
+                         TransportError, own_card)
+from galliumtoad._library import lib
+from galliumtoad.faults import block
 
 
 def made(count):
@@ -17,10 +20,11 @@ def made(count):
 
 class Probe(Application):
     """INS A4, D6 and 20 take data. P1-P2 is the number of bytes of a response: to B0 and A4 9000
-    follows them, to B2 6283. D6 and 20 have none: 9000 and 63C2. Of 5A P1-P2 is the status."""
+    follows them, to B2 6283. D6 and 20 have none: 9000 and 63C2. Of 5A P1-P2 is the status. It asks
+    as often for more time as `multiple` says, which counts down."""
 
     def __init__(self):
-        self.log, self.fault, self.answer = [], None, None
+        self.log, self.fault, self.answer, self.multiple = [], None, None, 0
 
     def note(self, *words):
         self.log.append(words)
@@ -31,6 +35,15 @@ class Probe(Application):
         if self.fault == "header":
             raise KeyboardInterrupt("header")
         return header[1] in (0xA4, 0xD6, 0x20)
+
+    def more_time(self, command):
+        if self.fault == "time":
+            raise KeyboardInterrupt("time")
+        multiple = self.multiple
+        if multiple:
+            self.note("waits", command.header.hex(), command.data, command.le, multiple)
+            self.multiple -= 1
+        return multiple
 
     def carry_out(self, command):
         self.note("did", command.header.hex(), command.data, command.le)
@@ -147,6 +160,76 @@ def test_at_t1():
             card.block(b"")
 
 
+UPDATE = bytes.fromhex("00D600000141")
+WAITED = [("waits", "00d60000", b"A", 0, 2), ("waits", "00d60000", b"A", 0, 1)]
+WAITED += done("00d60000", b"A")
+
+
+def until_it_listens(card):
+    """What each call of `send_bytes` returns, up to the first one without characters."""
+    return list(iter(card.send_bytes, b""))
+
+
+def test_more_time_by_characters():
+    """A NULL for each time that the application asks, and then the answer (ISO/IEC 7816-3, 10.3.3).
+    The data of the command stay."""
+    with own() as card:
+        card.application.multiple = 2
+        card.receive_bytes(UPDATE[:5])
+        assert until_it_listens(card) == [b"\xd6"]
+        card.receive_bytes(UPDATE[5:])
+        assert until_it_listens(card) == [b"\x60", b"\x60", b"\x90\x00"]
+        assert log(card) == WAITED
+
+
+def test_a_reset_while_the_application_has_more_time():
+    with own() as card:
+        card.application.multiple = 3
+        card.receive_bytes(bytes.fromhex("00B0000202"))
+        assert card.send_bytes() == b"\x60"
+        card.reset()
+        assert log(card) == [("waits", "00b00002", b"", 2, 3), ("reset",)]
+        card.receive_bytes(UPDATE[:5])
+        assert until_it_listens(card) == [b"\xd6"]
+        card.receive_bytes(UPDATE[5:])
+        assert b"".join(until_it_listens(card)) == b"\x60\x60\x90\x00"
+
+
+@pytest.mark.parametrize("way", [OwnCard.tpdu, OwnCard.apdu])
+def test_no_more_time_for_what_came_whole(way):
+    with own() as card:
+        card.application.multiple = 2
+        assert (way(card, UPDATE), log(card)) == (b"\x90\x00", done("00d60000", b"A"))
+
+
+def test_more_time_at_t1():
+    """S(WTX request) with the multiple, again after a block that is lost (ISO/IEC 7816-3,
+    11.6.2.3)."""
+    with own() as card:
+        card.begin_t1()
+        card.application.multiple = 2
+        for came, answer in [
+            (block(0, 0x00, UPDATE), block(0, 0xC3, b"\x02")),
+            (b"", block(0, 0xC3, b"\x02")),
+            (block(0, 0xE3, b"\x02"), block(0, 0xC3, b"\x01")),
+            (block(0, 0xE3, b"\x01"), block(0, 0x00, b"\x90\x00")),
+        ]:
+            assert card.block(came) == answer
+        assert log(card) == WAITED
+
+
+@pytest.mark.parametrize(("multiple", "error"), [(256, ValueError), (-1, ValueError),
+                                                 ("1", TypeError), (None, TypeError)])
+def test_a_multiple_that_no_application_asks_for(multiple, error):
+    with own() as card:
+        card.application.more_time = lambda command: multiple
+        card.receive_bytes(bytes.fromhex("00B0000505"))
+        with pytest.raises(error):
+            card.send_bytes()
+        del card.application.more_time
+        is_as_after_a_reset(card)
+
+
 DEADLOCKS = [
     ("00D6000002", "GT_WANTS_DATA", []),
     ("00B000050141", "GT_SENDS_DATA", [("did", "00b00005", b"", 1)]),
@@ -166,6 +249,18 @@ def test_a_deadlock_resets_the_application_once(tpdu, name, seen):
         assert log(card) == [("reset",)]
         assert card.apdu(bytes.fromhex("00B0000100")) == made(1) + b"\x90\x00"
         assert log(card) == done("00b00001", le=256)
+
+
+@pytest.mark.parametrize("code", [lib.GT_WANTS_DATA, lib.GT_SENDS_DATA])
+def test_a_deadlock_before_a_question_resets_the_application(monkeypatch, code):
+    """The card is reset by the library, which a stand-in replaces here."""
+    with own() as card:
+        monkeypatch.setattr(own_card, "lib", SimpleNamespace(
+            gt_card_tpdu=lambda *_: code, **{it: getattr(lib, it) for it in dir(lib)
+                                             if it.startswith("GT_")}))
+        with pytest.raises(TransportError):
+            card.tpdu(UPDATE)
+        assert log(card) == [("reset",)]
 
 
 READS = [
@@ -221,8 +316,12 @@ def is_as_after_a_reset(card):
     assert log(card) == done("00d60000", b"A")
 
 
-@pytest.mark.parametrize("way", WAYS)
-@pytest.mark.parametrize("fault", ["header", "did", "settled"])
+FAULTS = [(fault, way) for fault in ("header", "did", "settled") for way in WAYS]
+# what came whole asks for no more time
+FAULTS += [("time", way) for way in WAYS if way not in ("TPDUs", "commands")]
+
+
+@pytest.mark.parametrize(("fault", "way"), FAULTS)
 def test_an_exception_resets_the_card(way, fault):
     with own() as card:
         assert talked(card, "00B0000503")[3:] == b"\x61\x02"

@@ -40,6 +40,16 @@ class Application(ABC):
         command or a reset, and the status follows the last byte. Of fewer, but not none, a TPDU
         first gets the number, as 6CXX."""
 
+    def more_time(self, command: Command) -> int:
+        """How many times BWT, 1 to 255, the terminal waits at least before this is asked again, at
+        T=0 WWT for any number. 0, the default, if `carry_out` may begin.
+
+        Each other number sends one NULL (60) at T=0, and S(WTX request) at T=1. So begin the work
+        at the first call, and wait in each for less time than the terminal does. A terminal at T=1
+        may drop the command meanwhile, and send another: compare it. A whole TPDU or command needs
+        no more time, and comes to `carry_out` alone."""
+        return 0
+
     def settle(self) -> None:
         """The last command takes effect, with SW2 of its TPDU, also if that is 61XX or 6CXX. A
         whole command takes effect when it is carried out."""
@@ -94,8 +104,8 @@ class OwnCard(Planned):
 
     def send_bytes(self, room: int = 1024) -> bytes:
         """Returns the card's next characters, as that of `Card`, but with no limit beside `room`.
-        It carries a command out when all its data have arrived, if `room` is not 0. Errors as
-        `OwnCard` says."""
+        It carries a command out when all its data have arrived, if `room` is not 0. A NULL comes
+        alone, if the application needs more time. Errors as `OwnCard` says."""
         (made, count), copies = writable(within(room, 0, 1 << 30, "the room")), b""
 
         def send(*_: object) -> int:
@@ -133,7 +143,7 @@ class OwnCard(Planned):
     def block(self, came: Bytes) -> bytes:
         """Takes a block of a terminal at T=1, and returns the card's. A block that is not whole
         counts as one that stopped, and b"" as one that was lost: the card asks for it again. Bytes
-        after its end are dropped.
+        after its end are dropped. The block is S(WTX request) if the application needs more time.
 
         Errors, beside the exceptions that `OwnCard` names:
         - CallError, GT_STATE: the card speaks T=0; nothing has changed.
@@ -147,12 +157,12 @@ class OwnCard(Planned):
 
     def _whole(self, call: Callable[..., int], data: Bytes) -> bytes:
         answer, count = writable(room := lib.GT_ANSWER_LIMIT)
-        self._run(lambda *sent: call(self._handle, *sent, answer, room, count), data)
+        self._run(lambda *sent: call(self._handle, *sent, answer, room, count), data, False)
         return copied(answer, count)
 
-    def _run(self, call: Callable[..., int], data: Bytes = b"") -> None:
+    def _run(self, call: Callable[..., int], data: Bytes = b"", can_wait: bool = True) -> None:
         """Makes a call with these bytes, and again without bytes until nothing waits for the
-        application, which then settles."""
+        application, which then settles, or until that needs more time, if it `can_wait`."""
         with self._alone():
             code = call(*readable(data))
             if code in (lib.GT_WANTS_DATA, lib.GT_SENDS_DATA):
@@ -160,7 +170,7 @@ class OwnCard(Planned):
             checked(code)
             try:
                 while code in (lib.GT_HEADER, lib.GT_COMMAND):
-                    self._ask(code)
+                    self._ask(code, can_wait)
                     checked(code := call(*readable(b"")))
                 if not self._is_settled and lib.gt_card_settled(self._handle) == 1:
                     self._is_settled = True
@@ -169,7 +179,7 @@ class OwnCard(Planned):
                 self._reset()
                 raise
 
-    def _ask(self, code: int) -> None:
+    def _ask(self, code: int, can_wait: bool) -> None:
         """Asks the application about the header or the command that waits."""
         waits = ffi.new("gt_command *")
         checked(lib.gt_card_command(self._handle, waits))
@@ -179,6 +189,10 @@ class OwnCard(Planned):
             checked(lib.gt_card_direction(self._handle, to_card))
             return
         command = Command(header, bytes(waits.data[0 : waits.size]), waits.le)
+        multiple = self.application.more_time(command) if can_wait else 0
+        if within(multiple, 0, 255, "a multiple of BWT"):
+            checked(lib.gt_card_more_time(self._handle, multiple))
+            return
         status, data = self.application.carry_out(command)
         word = within(status, 0, 0xFFFF, "a status")
         checked(lib.gt_card_respond(self._handle, *readable(data), word))

@@ -369,7 +369,7 @@ def test_errors_before_anything_runs(files, capsys, monkeypatch, words, faults, 
 
 
 def test_a_reader_that_is_not_there_is_named_once(capsys, monkeypatch):
-    """And each time that the card is in, it says so."""
+    """And each time that vpcd has asked for the card, it says so."""
     monkeypatch.setattr(simulate, "AWAY_FOR", 0.01)
     of = Simulator(Card({bytes.fromhex(AID): {}}))
     with socket.socket() as server:
@@ -380,8 +380,11 @@ def test_a_reader_that_is_not_there_is_named_once(capsys, monkeypatch):
         time.sleep(0.3)
         server.listen()
         server.settimeout(60)
-        for _ in range(2):
-            server.accept()[0].close()
+        for message in (b"", b"\0\1\4", b"\0\1\0", b"", b"\0\1\4"):
+            with server.accept()[0] as line:
+                line.sendall(message)
+                if message == b"\0\1\4":
+                    assert line.recv(2) == b"\0\2"
         connected = server.accept()[0]
     of.is_over.set()
     thread.join()
@@ -389,6 +392,23 @@ def test_a_reader_that_is_not_there_is_named_once(capsys, monkeypatch):
     first, *lines = capsys.readouterr().err.splitlines()
     assert first.startswith(f"waiting for vpcd at {address}: ")
     assert lines == [f"the card is in the reader of vpcd at {address}"] * 3
+
+
+def test_a_card_that_vpcd_does_not_ask_for_is_not_in_the_reader(capsys):
+    """As while another simulation has the port: TCP connects, and vpcd is silent. The line says
+    what it waits for."""
+    it = Vpcd()
+    address = f"localhost:{it.server.getsockname()[1]}"
+    said, waits = "", f"waiting for vpcd at {address}: it asks for no card, as while it has one\n"
+    until = time.monotonic() + 20
+    while not said and time.monotonic() < until:
+        time.sleep(0.05)
+        said = capsys.readouterr().err
+    assert said == waits
+    assert it.ask(b"\x04").hex() == "3b00"
+    assert capsys.readouterr().err == f"the card is in the reader of vpcd at {address}\n"
+    it.end()
+    assert capsys.readouterr().err == ""
 
 
 def test_a_connection_with_itself_is_none(monkeypatch):

@@ -3,28 +3,33 @@
 import argparse
 import contextlib
 import fcntl
+import multiprocessing
 import os
 import pty
 import select
+import signal
 import socket
 import sys
 import termios
 import threading
 import time
 import tty
+from multiprocessing.connection import Connection
 from pathlib import Path
-from typing import Callable, Optional, Union
+from typing import Any, Callable, ContextManager, Optional, Union
 
 from . import (Application, Atr, AtrError, Card, Code, Command, CommandError, Edc, Level, OwnCard,
                Pps, PpsError)
-from .cards import (LEAST_ATR, LOOKS_EVERY, Program, Replay, application, next_byte, read_table,
-                    status_of)
+from .cards import (LEAST_ATR, LOOKS_EVERY, Program, Replay, application, awaits, next_byte,
+                    read_table, status_of)
 from .faults import ECHO, LINE, OK, T0, T1, Faults, Gone, block, mistakes, number, program, read
 
 POWER_OFF, POWER_ON, RESET, GET_ATR = (bytes([it]) for it in (0, 1, 2, 4))  # vpcd's own messages
 MUTE_FOR, AWAY_FOR = 10.0, 2.0  # seconds until the connection to vpcd closes, and opens again
+SILENT_FOR = 1.0  # seconds until vpcd, which serves one connection at a time, seems to have another
 VPCD, PPSS, DEFAULT_RATE, FOREVER = "localhost:35963", b"\xFF", 0x11, float("inf")
-RESYNCH, ABORT, RESPONSE, IS_PART = 0xC0, 0xC2, 0x20, 0x20  # of the PCB at T=1
+RESYNCH, ABORT, WTX, RESPONSE, IS_PART = 0xC0, 0xC2, 0xC3, 0x20, 0x20  # of the PCB at T=1
+NULL, MULTIPLE = b"\x60", 8  # more time at T=0, and how many times BWT at T=1
 SIGNALS = {"cts": termios.TIOCM_CTS, "dsr": termios.TIOCM_DSR, "dcd": termios.TIOCM_CAR}
 TURNED = bytes(int(f"{byte:08b}"[::-1], 2) ^ 0xFF for byte in range(256))  # inverse convention
 
@@ -50,6 +55,7 @@ class Simulator(contextlib.ExitStack):
         self.takes_data = own.takes_data if own else lambda header: header[1] in (0xA4, 0xDA)
         self.instead = own.instead if isinstance(own, Replay) else lambda header: None
         self.carried_out: Callable[[bytes], object] = lambda command: None
+        self.working: Callable[[], ContextManager[None]] = contextlib.nullcontext  # what it is in
         self.faults.tell, self.level = self.tell, Level.APDU if own else Level.TPDU
         with contextlib.suppress(AtrError):  # whole commands reach a card with any answer
             self.level = Level.APDU if Atr(atr).protocols[0] else self.level
@@ -85,15 +91,21 @@ class Simulator(contextlib.ExitStack):
         data. Bytes that are no command get 6D00 or 6700; no TPDU raises `TransportError`."""
         if more:
             self.card.receive_bytes(data)
-            if len(sent := self.card.send_bytes()) == 1:
+            if len(sent := self.sent()) == 1:
                 self.came = data + more()
                 self.card.receive_bytes(self.came[5:])
-                return self.card.send_bytes()
+                return self.sent()
             return sent[len(sent) != 2 :]  # without its procedure byte
-        try:
-            return self.card.tpdu(data) if self.level is Level.TPDU else self.card.apdu(data)
-        except CommandError as why:
-            return b"\x6D\x00" if why.code is Code.INVALID_INS else b"\x67\x00"
+        with self.working():
+            try:
+                return self.card.tpdu(data) if self.level is Level.TPDU else self.card.apdu(data)
+            except CommandError as why:
+                return b"\x6D\x00" if why.code is Code.INVALID_INS else b"\x67\x00"
+
+    def sent(self) -> bytes:
+        """The card's next characters, without NULLs by which its application asks for time."""
+        with self.working():
+            return b"".join(iter(self.card.send_bytes, b"")).lstrip(NULL)
 
     def whole(self, data: bytes, more: Optional[Callable[[], bytes]] = None) -> bytes:
         """As `carry_out`, with the faults that strike."""
@@ -112,10 +124,96 @@ class Simulator(contextlib.ExitStack):
         return self.faults.changed(answer)
 
 
+class Keeper:
+    """A process that asks a line's terminal for more time while an application works, which it does
+    in `with`. No thread could do that: the application may keep the interpreter to itself. The end
+    of `with` raises `OSError` if the terminal has left."""
+
+    def __init__(self, line: "Line") -> None:
+        self.line, (self.way, its) = line, multiprocessing.Pipe()
+        self.number = os.fork()
+        if not self.number:
+            try:
+                self.way.close()
+                self.run(its)
+            finally:
+                os._exit(0)
+        its.close()
+
+    def close(self) -> None:
+        if self.number:
+            self.way.close()
+            os.kill(self.number, signal.SIGKILL)
+            os.waitpid(self.number, 0)
+        self.number, self.line.keeper = 0, None
+
+    @mistakes("the process that asks for more time has ended", EOFError, OSError)
+    def __enter__(self) -> None:
+        self.way.send(self.line.of.level)
+
+    def __exit__(self, kind: Optional[type[BaseException]], *_: object) -> None:
+        if kind:
+            self.close()
+            return
+        told, self.line.ahead, is_left = self.result()
+        for it in told:
+            self.line.tell(*it)
+        if is_left:
+            raise OSError("the terminal has left")
+
+    @mistakes("the process that asks for more time has ended", EOFError, OSError)
+    def result(self) -> Any:
+        """What `asked` returns there. It waits for a terminal that has not responded yet."""
+        self.way.send(None)
+        while not self.way.poll(LOOKS_EVERY):
+            if self.line.ends():
+                return [], b"", True
+        return self.way.recv()
+
+    def run(self, way: Connection) -> None:
+        """What the process does, until the simulation ends."""
+        other, line = select.poll(), self.line
+        other.register(way.fileno(), 0)
+        line.ends = lambda: bool(other.poll(0)) or line.is_left()
+        signal.signal(signal.SIGINT, signal.SIG_IGN)
+        with contextlib.suppress(EOFError, OSError):
+            while True:
+                line.of.level = way.recv()
+                way.send(self.asked(way))
+
+    def asked(self, way: Connection) -> tuple[list[tuple[str, str]], bytes, bool]:
+        """Asks for time until the application has ended. Returns the dialogue, a request of the
+        terminal that waits for its response, and whether the terminal has left."""
+        told, line, is_left = list[tuple[str, str]](), self.line, False
+        line.tell, line.ahead = lambda text, sign="": told.append((text, sign)), b""
+        wait, later = line.waits[line.of.level]
+        try:
+            while not self.has_ended(way, wait):
+                line.ask_for_time()
+                wait = later
+        except OSError:
+            is_left = True
+            line.clear()
+        way.recv()
+        return told, line.ahead, is_left
+
+    def has_ended(self, way: Connection, seconds: float) -> bool:
+        """Whether the application ends in this time. Raises `OSError` if the terminal leaves."""
+        until = time.monotonic() + seconds
+        while not way.poll(LOOKS_EVERY):
+            if self.line.is_left():
+                raise OSError
+            if time.monotonic() > until:
+                return False
+        return True
+
+
 class Line(Application):
     """A card's end of a line of characters. At T=1 the library's end numbers, acknowledges and
     repeats blocks. In place of a command it gets one of its own, with a response as long as the
     card's, which replaces it. The last block has what exceeds the response to a short command."""
+    keeper: Optional[Keeper] = None
+    closed: Optional[select.poll] = None  # looks whether the terminal has left a pseudo terminal
 
     def __init__(self, of: Simulator, fd: int, has_echo: bool = False, baud: int = 9600,
                  signal: str = "") -> None:
@@ -128,6 +226,11 @@ class Line(Application):
         self.of, self.fd, self.has_echo, self.heard, self.ahead = of, fd, has_echo, b"", b""
         self.turned = TURNED if of.atr[0] == 0x3F else None
         self.bit, self.cwt = SIGNALS.get(signal, 0), 0.2 + says.t1.cwt_etu / baud
+        self.ends, self.tell = of.is_over.is_set, of.tell
+        # It asks for time after half of WWT or BWT, and then after half of what it asked for.
+        wwt, bwt = 480 * (says.waiting_integer or 10) / baud, (480 << says.t1.bwi) / baud
+        self.waits = {Level.TPDU: (wwt, wwt), Level.APDU: (bwt, MULTIPLE * bwt)}
+        of.working = self.working
         places = {LINE: True, T0: 0 in says.protocols, T1: 1 in says.protocols, ECHO: has_echo}
         of.faults.check([it for it in places if places[it]], "this line")
 
@@ -136,14 +239,24 @@ class Line(Application):
         bits = fcntl.ioctl(self.fd, termios.TIOCMGET, bytes(4)) if self.bit else b""
         return bool(int.from_bytes(bits, sys.byteorder) & self.bit)
 
+    def is_left(self) -> bool:
+        """Whether the terminal has closed a pseudo terminal, or resets the card."""
+        return bool(self.closed.poll(0)) if self.closed else self.is_reset()
+
+    def clear(self) -> None:
+        """Drops the characters in a pseudo terminal."""
+        if self.closed:
+            termios.tcflush(self.fd, termios.TCIOFLUSH)
+            tty.setraw(self.fd)  # also drops those that the terminal has not read
+
     def read(self, seconds: float = FOREVER) -> bytes:
         """Returns the next character, or none if none came in this time. Raises `OSError` if the
         card is reset, or the line or the program ends."""
         self.write(b"")
         byte = next_byte(self.fd, time.monotonic() + seconds,
-                         lambda: self.of.is_over.is_set() or self.is_reset())
+                         lambda: self.ends() or self.is_reset())
         self.heard = byte.translate(self.turned)
-        self.of.tell(self.heard.hex().upper(), ">")
+        self.tell(self.heard.hex().upper(), ">")
         return self.heard
 
     def write(self, data: bytes) -> None:
@@ -154,7 +267,7 @@ class Line(Application):
         while self.of.faults.pauses:
             self.of.is_over.wait(self.of.faults.pauses.pop())
         if not self.is_reset():
-            self.of.tell(data.hex().upper(), "<")
+            self.tell(data.hex().upper(), "<")
             os.write(self.fd, data.translate(self.turned))
 
     def take(self, size: Callable[[bytes], int], seconds: float = FOREVER) -> bytes:
@@ -167,6 +280,9 @@ class Line(Application):
     def talk(self) -> None:
         """Resets the card, and talks, after PPS at the rate of a reset. An invalid request makes it
         mute (ISO/IEC 7816-3, 9.1 and 9.3). Raises `OSError` at the next reset, or as `read`."""
+        if isinstance(self.of.card, OwnCard) and not self.keeper:
+            self.keeper = Keeper(self)
+            self.of.callback(self.keeper.close)
         self.of.reset()
         self.write(self.of.atr)
         t, self.ahead = self.says.protocols[0], self.read()  # which may begin a PPS request
@@ -217,6 +333,8 @@ class Line(Application):
                     end.block(block(0, ABORT, b""))
                 came = block(0, came[1], bytes(5))
             sent = end.block(came)
+            if self.ahead:
+                continue  # the terminal has dropped the command
             if came[1:2] in (b"\x20", b"\x60") and sent[1] & 0xEF == 0x80:  # acknowledges a part
                 self.command += self.part
             elif sent[1] in (ABORT | RESPONSE, RESYNCH | RESPONSE):
@@ -230,16 +348,42 @@ class Line(Application):
                 sent = self.last  # the same block again
             self.write(sent)
 
+    def request(self, request: bytes, times: float) -> None:
+        """Sends a request of the card, at most so many times, until the terminal responds, or has
+        a request that drops the command, which is then `ahead`."""
+        while times > 0 and not self.ahead:
+            times -= 1
+            self.write(request)
+            came = self.block()
+            if came == block(0, request[1] | RESPONSE, request[3:-1]):
+                break
+            self.ahead = came if came in (block(0, RESYNCH, b""), block(0, ABORT, b"")) else b""
+
     def takes_data(self, header: bytes) -> bool:
         return False
 
-    def carry_out(self, command: Command) -> tuple[int, bytes]:
+    def working(self) -> ContextManager[None]:
+        """What an application works in. The echo goes out before."""
+        self.write(b"")
+        return self.keeper or contextlib.nullcontext()
+
+    def ask_for_time(self) -> None:
+        """Sends NULL at T=0, and at T=1 S(WTX request) until that has its response."""
+        if self.of.level is Level.TPDU:
+            self.write(NULL)
+        else:
+            self.request(block(0, WTX, bytes([MULTIPLE])), FOREVER)
+            self.write(b"")  # the echo
+
+    def more_time(self, command: Command) -> int:
+        """Carries the command out. If the terminal has dropped it meanwhile, the end has to drop it
+        too, as it does if it has asked for time."""
         self.response, self.command, self.last = self.of.whole(self.command + self.part), b"", b""
         if request := self.of.faults.edited(b"", "wtx BYTE", "ifs BYTE", "abort"):
-            for _ in range(4):
-                self.write(request)
-                if self.block() == block(0, request[1] | RESPONSE, request[3:-1]):
-                    break
+            self.request(request, 4)
+        return 1 if self.ahead else 0
+
+    def carry_out(self, command: Command) -> tuple[int, bytes]:
         return 0x9000, bytes(min(len(self.response), 258) - 2)
 
 
@@ -267,18 +411,18 @@ def serve_pty(of: Simulator, has_echo: bool, tell: Callable[[str], object]) -> N
     """Serves a pseudo terminal, whose name `tell` gets, until `is_over`. Opening it resets,
     unless it is open, or was closed in the same moment."""
     ours, theirs = pty.openpty()
-    closed, line = select.poll(), Line(of, ours, has_echo)
-    closed.register(ours, 0)
-    tty.setraw(ours)
+    line = Line(of, ours, has_echo)
+    line.closed = select.poll()
+    line.closed.register(ours, 0)
+    line.clear()
     tell(os.ttyname(theirs))
     os.close(theirs)
     while not of.is_over.is_set():
-        while closed.poll(0) and not of.is_over.is_set():
+        while line.is_left() and not of.is_over.is_set():
             time.sleep(LOOKS_EVERY)
         with contextlib.suppress(OSError):
             line.talk()
-        termios.tcflush(ours, termios.TCIOFLUSH)
-        tty.setraw(ours)
+        line.clear()
     os.close(ours)
 
 
@@ -316,18 +460,29 @@ def talk_vpcd(of: Simulator, line: socket.socket, tell: Callable[[str], object])
 
 
 def serve_vpcd(of: Simulator, address: str) -> None:
-    """Puts the card into vpcd's reader, again whenever a connection ends. Prints when it waits."""
-    waits = False
+    """Puts the card into vpcd's reader, again whenever a connection ends. Prints when vpcd's first
+    message shows that it is in, and before that what it waits for."""
+    said = ""
+    def say(now: str) -> None:
+        nonlocal said
+        if now != said:
+            print(now, file=sys.stderr, flush=True)
+        said = now
     of.faults.check([], "vpcd")
     while not of.is_over.is_set():
         try:
-            line, waits = connected(address), False
-            print(f"the card is in the reader of vpcd at {address}", file=sys.stderr, flush=True)
-            talk_vpcd(of, line, lambda name: None)
+            line = connected(address)
         except OSError as why:
-            if not waits:
-                print(f"waiting for vpcd at {address}: {why}", file=sys.stderr, flush=True)
-            waits = True
+            say(f"waiting for vpcd at {address}: {why}")
+        else:
+            with line, contextlib.suppress(OSError):
+                if not awaits(line.fileno(), time.monotonic() + SILENT_FOR, of.is_over.is_set):
+                    say(f"waiting for vpcd at {address}: it asks for no card, as while it has one")
+                    awaits(line.fileno(), FOREVER, of.is_over.is_set)
+                if line.recv(1, socket.MSG_PEEK):
+                    say(f"the card is in the reader of vpcd at {address}")
+                    talk_vpcd(of, line, lambda name: None)
+                    said = ""
         of.reset()
         of.is_over.wait(AWAY_FOR)
 

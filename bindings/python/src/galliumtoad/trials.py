@@ -35,8 +35,7 @@ VERDICTS = ("right", "told", *BAD)
 PRINTS = "prints what it read"
 DOES = {"reports": ["told"], "succeeds": ["right"], "succeeds or reports": ["right", "told"],
         PRINTS: ["right", "told"]}
-HEAD = ["Trial", "Fault", "Verdict", "What happened", "Last line", "What a good terminal does",
-        "Clause"]
+HEAD = ["Trial", "Fault", "Verdict", "What happened", "What a good terminal does", "Clause"]
 STAR = "* the fault can't strike this terminal, as the list says, so it does not count"
 WORDS = {"aid": AID.hex().upper(), "tag": f"{TAG:02X}", "value": VALUE.hex().upper()}
 USAGE = """TERMINAL selects {aid}, puts {value} under {tag} in pieces of 255, 255 and 90 bytes, gets
@@ -70,6 +69,10 @@ class Trial:
     @property
     def expected(self) -> list[str]:
         return DOES[max((it for it in DOES if self.does.startswith(it)), key=len)]
+
+    @property
+    def ending(self) -> str:  # what happened, and the last line if it was no value
+        return self.happened + f"; said: {self.said}" * bool(self.said)
 
     @property
     def is_missed(self) -> bool:
@@ -125,7 +128,7 @@ class Run(Simulator):
         rest = printed.replace(sent, "-") if own in sent else printed
         has_read = bool(sent) and sent in printed and own not in rest
         is_true = has_read if self.trial.does.startswith(PRINTS) else own == held and own in printed
-        what = "what it read" if has_read else "what it put" if own in printed else "no value"
+        what = "what it read" if has_read else "the value" if own in printed else "no value"
         on_card = "the value" if held == own else "another value" if held else "no value"
         end = "no end" if status is None else f"exit status {status}"
         return self.verdict(status, is_true), f"{end}; printed {what}; the card holds {on_card}"
@@ -207,14 +210,13 @@ def as_text(it: Trial) -> str:
     """The lines of a trial."""
     return (f"{it.verdict + '*' * it.is_missed:7}  {it.name}\n"
             f"         expected: {it.does}\n"
-            f"         happened: {it.happened}{'; said: ' * bool(it.said)}{it.said}\n"
-            f"         clause: {it.clause}")
+            f"         happened: {it.ending}\n         clause: {it.clause}")
 
 
 def as_html(results: list[Trial]) -> str:
     """The results as a page."""
     rows = [(it.verdict * it.is_bad, [it.name, it.faults, it.verdict + "*" * it.is_missed,
-                                      it.happened, it.said, it.does, it.clause]) for it in results]
+                                      it.ending, it.does, it.clause]) for it in results]
     return f"{begin('Trials')}{table(HEAD, rows, has_ends=False)}<p>{STAR}</html>\n"
 
 

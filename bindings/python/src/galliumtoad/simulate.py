@@ -214,6 +214,7 @@ class Line(Application):
     card's, which replaces it. The last block has what exceeds the response to a short command."""
     keeper: Optional[Keeper] = None
     closed: Optional[select.poll] = None  # looks whether the terminal has left a pseudo terminal
+    echo = "wrong echo"  # the fault of the next echo
 
     def __init__(self, of: Simulator, fd: int, has_echo: bool = False, baud: int = 9600,
                  signal: str = "") -> None:
@@ -261,8 +262,7 @@ class Line(Application):
 
     def write(self, data: bytes) -> None:
         """Sends the echo of the last character, if there is one, and then characters."""
-        kind = "wrong echo" if data else "wrong echo of data"
-        echo, self.heard = self.of.faults.edited(self.heard, kind) * self.has_echo, b""
+        echo, self.heard = self.of.faults.edited(self.heard, self.echo) * self.has_echo, b""
         os.write(self.fd, echo.translate(self.turned))
         while self.of.faults.pauses:
             self.of.is_over.wait(self.of.faults.pauses.pop())
@@ -308,8 +308,10 @@ class Line(Application):
                 first = self.take(lambda it: 1)
             self.begun = self.of.faults.edited(header[1:2], T0, LINE)
             self.write(self.begun)
+            self.echo = "wrong echo of data"
             return first + self.take(lambda it: header[4] - len(first))
         while True:
+            self.echo = "wrong echo"
             header, self.begun = self.take(lambda it: 5), b""
             answer = self.of.whole(header, more)
             if len(answer) > 2 and self.of.came == header:

@@ -3,6 +3,7 @@ these tests play, and both talk over a line that damages, loses, doubles and del
 
 import os
 import re
+import signal
 import sys
 import tempfile
 import time
@@ -99,6 +100,25 @@ def block_waiting_time():
         look(program, program.end(), "", CAUSE + OUTCOMES["unknown"], 1)
         assert 0.29 <= min(other.gaps[5:26:5]), f"{other.gaps}"
         assert max(other.gaps[5:26:5]) < 0.8, f"{other.gaps}"
+
+
+def long_waiting_times():
+    """BWT is 0.8 s with BWI 3, and CWT 0.85 s with CWI 13. A terminal that gets no more asks again
+    after that and the slack, 0.2 s."""
+    first, sent = talk(">", "C1:FE"), talk(">", f"00:{SELECT_APDU}")
+    for answer, dialogue, again, least in (
+        ("3B8081213313", first, first, 1.0),
+        ("3B8081210D2D", OPEN + sent + "< 0000 ", talk(">", "82"), 1.05),
+    ):
+        with at_line("--no-echo", words=terminal_cases.SELECT, echo=False, slack=None) as (
+                _, program, other):
+            play(other, f"< {answer} {dialogue}", card=True)
+            count = len(other.gaps)
+            play(other, again, card=True)
+            program.kill(signal.SIGTERM)
+            program.end()
+            gap = other.gaps[count]
+            assert least <= gap < least + 0.4, f"{answer}: {gap}"
 
 
 def block_guard_time():
@@ -600,6 +620,7 @@ def tests():
     yield "T=1: each opening of a card's line", each_opening
     yield "T=1: a terminal that does not stop sending", never_stops
     yield "T=1: the block waiting time", lambda: in_time(block_waiting_time)
+    yield "T=1: long waiting times", lambda: in_time(long_waiting_times)
     yield "T=1: the block guard time", block_guard_time
     for title, fates in MILD:
         # a card by EMV is silent for good after the fourth

@@ -53,8 +53,10 @@ class Case:
     heaps: bool = False
     # in milliseconds; None is the program's default, 200
     slack: int = 600
-    # the program ends at least this time and the slack after the last character
+    # the program ends at least this time and the slack after the last character, and at most this
+    # much later
     waits: float = None
+    late: float = LATE
     # the rate of the tty before the last word of the dialogue
     baud: int = None
     # the least time before each of the terminal's characters
@@ -96,7 +98,7 @@ def run(case):
         assert left == case.left, f"{left} is on the line after the dialogue"
         waited = program.began + program.seconds - last
         least = 0 if case.waits is None else case.waits + (case.slack or 200) / 1000
-        must_end(waited, least, least + LATE)
+        must_end(waited, least, least + case.late)
         assert line.is_put_back(), "the tty is not set as it was before"
         assert case.baud in (None, baud), f"the tty runs at {baud} baud"
         assert not other.gaps or min(other.gaps) >= case.gap, f"{min(other.gaps)} s between two"
@@ -267,7 +269,7 @@ def answers():
     ):
         # without a measured wait a busy machine may be late
         yield Case(title, answer, SHORT, fault=f"{fault}\n", status=1, waits=waits,
-                   slack=3000 if waits is None else 600)
+                   slack=3000 if waits is None else 600, late=LATE if waits is None else 0.6)
     for inverse in (False, True):
         ts = "3F" if inverse else "3B"
         for title, noise in (("16 characters", "FF00" * 8), ("a character", "FE"),
@@ -354,7 +356,7 @@ def waiting():
         ("silent after a NULL", quick + SHORT_WORDS + "< 60 ", 0.2),
         ("silent after a header, with Fi reserved", "< 3B1071 " + SHORT_WORDS, 1.0),
     ):
-        yield Case(title, dialogue, SHORT, fault=fault, status=1, waits=waits)
+        yield Case(title, dialogue, SHORT, fault=fault, status=1, waits=waits, late=0.15 + waits / 2)
     yield Case("silent within data", quick + "> 00CA5F2003 < CA5F20", ["send", "00CA5F2003"],
                fault=fault, status=1, waits=0.2)
     yield Case("silent after a header, at 4,800 baud", quick + SHORT_WORDS, SHORT, fault=fault,
@@ -402,7 +404,7 @@ def noise():
     yield Case("an echo of 255 characters", f"< 3B00 > 00DA5F20FF < DA > {'41' * 255} < 9000",
                ["put", "5F20", "41*255"], "= 9000\n", options=["--baud", "1200"])
     yield Case("no echo", "< 3B00 ", SHORT, fault="operation 1: there is no echo\n",
-               status=1, waits=0.0, left="0020000000")
+               status=1, waits=0.0, left="0020000000", late=0.4)
     yield Case("GET RESPONSE that brings nothing",
                "< 3B00 > 00CA5F2000 < 6105 > 00C0000005 < 6105 ", GET,
                fault="operation 1: stalled\n", status=1)
@@ -702,7 +704,7 @@ def pps():
                    fault=refused, status=1, options=own)
     mute = "the card does not answer to PPS\n"
     yield Case("PPS that is not answered", answer + request, SHORT, fault=mute, status=1,
-               options=own, waits=1.0)
+               options=own, waits=1.0, late=0.6)
     yield Case("PPS that is answered by half", answer + request + "< FF1095 ", SHORT,
                "reset\n< 3B1095\npps > FF10957A\npps < FF1095\n", mute, 1, options=["-v", "--pps"],
                waits=1.0)

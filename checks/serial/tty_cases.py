@@ -20,7 +20,7 @@ from terminal_cases import DONE, LATE, SHORT, SHORT_WORDS, look
 SET = "set {} baud, 8 bits, {} parity with marks, 2 stop bits"
 EVEN, ODD = SET.format(9600, "even"), SET.format(9600, "odd")
 # The settings of the pseudo terminal before a test.
-BEFORE = "set 38400 baud, 8 bits, no parity, 1 stop bit"
+BEFORE = "set 38400 baud, 8 bits, no parity, 1 stop bit, for a modem"
 END = ["drop what has not gone", BEFORE]
 RESET = ["rts on", "drop what has come", "rts off"]
 PARITY = "received a character with wrong parity\n"
@@ -30,7 +30,7 @@ NONE = "the answer to reset is invalid: "
 class Tty:
     """A line whose near end is a tty by the stand-in, and the stand-in's notes."""
 
-    def __init__(self, refuses=""):
+    def __init__(self, refuses="", rates=None):
         self.line, self.folder = Line(), tempfile.TemporaryDirectory()
         self.log, self.inputs = (Path(self.folder.name) / it for it in ("log", "inputs"))
         self.log.write_text("", encoding="utf-8")
@@ -39,6 +39,7 @@ class Tty:
             "STANDIN_TTY": str(self.log),
             "STANDIN_INPUTS": str(self.inputs),
             "STANDIN_REFUSES": refuses,
+            **({"STANDIN_RATES": rates} if rates else {}),
         }
 
     def __enter__(self):
@@ -95,9 +96,10 @@ class Marking(Other):
 
 
 def terminal(dialogue, noted, fault="", refuses="", options=(), output="= 9000\n", play_it=None,
-             reset="rts off", inverse=False, waits=0.0, echo=True, words=SHORT, status=None):
+             reset="rts off", inverse=False, waits=0.0, echo=True, words=SHORT, status=None,
+             rates=None):
     """A terminal at a tty. The card answers after the end of the reset."""
-    with Tty(refuses) as tty:
+    with Tty(refuses, rates) as tty:
         options = [*options, *([] if echo else ["--no-echo"])]
         words = ["--slack", "1200", *options, tty.line.name, *words]
         program = Program("gt_serial", words, environment=tty.environment)
@@ -210,6 +212,16 @@ def rates():
     yield ("a tty's settings at 38,400 baud", lambda: terminal(
         "< 3B00 " + SHORT_WORDS + DONE, [SET.format(38400, "even"), *reset[1:],
         SET.format(38400, "even"), *END], options=["--baud", "38400"]))
+    # 9,600 baud and a 50th of that, 192 baud, and one baud more
+    for title, number, is_well in (("a 50th slower", 980, True), ("a 50th faster", 1020, True),
+                                   ("a 49th slower", 979, False), ("a 49th faster", 1021, False),
+                                   ("a tenth slower", 900, False), ("a tenth faster", 1100, False)):
+        for of in (f"{number} {number}", f"{number} 1000", f"1000 {number}"):
+            well = f"< 3B00 {SHORT_WORDS}{DONE}", [*reset, EVEN, *END]
+            off = "", [EVEN, *END], "the tty does not run at 9600 baud\n"
+            more = {} if is_well else {"output": "", "reset": ""}
+            yield (f"a tty that runs {title}, {of}", lambda of=of, case=well if is_well else off,
+                   more=more: terminal(*case, rates=of, **more))
     yield ("a tty that does not run so fast", lambda: terminal(
         "< 3B1095", [*reset, SET.format(111600, "even"), *END],
         "the tty does not run at 111600 baud\n", "fast", ["--pps"], ""))
@@ -323,7 +335,9 @@ def without_echo():
         ("an echo", "< 0020000000", SHORT, "operation 1: the line echoes\n"),
         ("a status within data", "> 0020000103 ~ 0.1 < 20 > 414E4E < 9000", put, fault),
         ("a status behind data, in time", "> 0020000103 ~ 0.1 < 20 > 414E4E ~ 0.1 < 9000", put, ""),
-        # 255 characters take 2.55 s, and a 32nd of that is 80 ms
+        # 255 characters take 2.55 s, a 32nd of that is 80 ms, and a tenth 255 ms
+        ("a status within the last tenth of data", f"> 00200001FF ~ 0.1 < 20 > {'41' * 255} ~ 2.42 "
+         "< 9000", ["send", "00200001FF" + "41" * 255], fault),
         ("a status within the last 32nd of data", f"> 00200001FF ~ 0.1 < 20 > {'41' * 255} ~ 2.5 "
          "< 9000", ["send", "00200001FF" + "41" * 255], ""),
     ):

@@ -17,7 +17,9 @@
  *   - many: the port takes at most four characters at once.
  *   - halves: after FF the port first has no character.
  *
- * With or without these, STANDIN_CLOCK is how many times as fast the program's clock runs.
+ * STANDIN_RATES are the rates that the port takes for input and output, in thousandths of those that
+ * it is set to. With or without STANDIN_TTY, STANDIN_CLOCK is how many times as fast the program's
+ * clock runs.
  *
  * A pseudo terminal has no parity. So the other end writes the mark of a character with wrong
  * parity: FF 00 before it, and FF FF for FF. */
@@ -88,19 +90,26 @@ static int fail(int number)
 static void note_settings(const struct termios2 *wanted)
 {
     const tcflag_t flags = wanted->c_cflag;
-    char text[80];
-    snprintf(text, sizeof text, "set %u baud, %s bits, %s parity%s, %s",
+    char text[100];
+    snprintf(text, sizeof text, "set %u baud, %s bits, %s parity%s, %s%s%s",
              (unsigned)wanted->c_ospeed, (flags & CSIZE) == CS8 ? "8" : "other",
              (flags & PARENB) == 0 ? "no" : (flags & PARODD) != 0 ? "odd" : "even",
              (wanted->c_iflag & INPCK) != 0 && (wanted->c_iflag & PARMRK) != 0 ? " with marks" : "",
-             (flags & CSTOPB) != 0 ? "2 stop bits" : "1 stop bit");
+             (flags & CSTOPB) != 0 ? "2 stop bits" : "1 stop bit",
+             (flags & CREAD) != 0 ? "" : ", deaf", (flags & CLOCAL) != 0 ? "" : ", for a modem");
     note(text);
 }
 
-/* Takes settings, with the changes that STANDIN_REFUSES asks for. */
+/* Takes settings, with the changes that STANDIN_REFUSES and STANDIN_RATES ask for. */
 static void take_settings(const struct termios2 *wanted)
 {
+    const char *rates = getenv("STANDIN_RATES");
+    char *next = NULL;
     settings = *wanted;
+    if (rates != NULL) {
+        settings.c_ispeed = wanted->c_ispeed * (speed_t)strtoul(rates, &next, 10) / 1000;
+        settings.c_ospeed = wanted->c_ospeed * (speed_t)strtoul(next, NULL, 10) / 1000;
+    }
     if (refuses("bits"))
         settings.c_cflag = (settings.c_cflag & ~(tcflag_t)CSIZE) | CS7;
     if (refuses("stop"))

@@ -577,6 +577,12 @@ def echoes_of_data():
     yield Case("a line that echoes the first piece of a put", f"{QUICK}> 10DA5F20FF < DA > "
                + "9000" + "41" * 253 + " < 9000 ~ 0.3 < 41", ["put", "5F20", "9000" + "41" * 300],
                fault=ECHOES, status=1, echo=False, quick=True)
+    yield Case("a line that echoes data after 310 NULLs", f"{QUICK}> 00DA5F2002 < {'60' * 310}DA > "
+               "9000 < 9000 ~ 0.4 < 9000", ["put", "5F20", "9000"], fault=ECHOES, status=1,
+               echo=False, quick=True)
+    yield Case("a procedure byte that is the data, on a line that should echo",
+               f"{QUICK}> 00DA5F2001 < DA > 41 < 41 ", ["put", "5F20", "41"],
+               fault="operation 1: bad procedure byte\n", status=1)
     # with the card's next byte the echo is a status
     yield Case("a line that echoes 90 before INS xor FF", f"{QUICK}> 00DA5F2002 < 25 > 90 < 9025",
                ["put", "5F20", "9000"], "= 9025\n", "operation 1: the card ended the command before"
@@ -607,7 +613,7 @@ def no_echoes_of_data():
     yield Case("no echo of 9000, and a get", put_words("9000") + "< 9000 " + GET_WORDS,
                ["put", "5F20", "9000", *GET], "= 9000\n" + GOT, echo=False, slack=3000)
     yield Case("no echo of 9000, and the waiting time", put_words("9000") + "< 9000 ",
-               ["put", "5F20", "9000"], "= 9000\n", echo=False, waits=0.2)
+               ["put", "5F20", "9000"], "= 9000\n", echo=False, waits=0.2, late=0.5)
     yield Case("no echo of 9000, and a byte before the next header",
                put_words("9000") + "< 9000 ~ 1.1 < 55", ["put", "5F20", "9000", *GET], "= 9000\n",
                "operation 2: unexpected byte\n", 1, options=["--quiet", "1000"], echo=False,

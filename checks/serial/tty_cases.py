@@ -212,15 +212,14 @@ def rates():
     yield ("a tty's settings at 38,400 baud", lambda: terminal(
         "< 3B00 " + SHORT_WORDS + DONE, [SET.format(38400, "even"), *reset[1:],
         SET.format(38400, "even"), *END], options=["--baud", "38400"]))
-    # 9,600 baud and a 50th of that, 192 baud, and one baud more
-    for title, number, is_well in (("a 50th slower", 980, True), ("a 50th faster", 1020, True),
-                                   ("a 49th slower", 979, False), ("a 49th faster", 1021, False),
-                                   ("a tenth slower", 900, False), ("a tenth faster", 1100, False)):
-        for of in (f"{number} {number}", f"{number} 1000", f"1000 {number}"):
+    # a 50th of 9,600 baud is 192
+    for number, is_well in ((9408, True), (9792, True), (9407, False), (9793, False),
+                            (8640, False), (10560, False)):
+        for of in (f"{number} {number}", f"{number} 9600", f"9600 {number}"):
             well = f"< 3B00 {SHORT_WORDS}{DONE}", [*reset, EVEN, *END]
             off = "", [EVEN, *END], "the tty does not run at 9600 baud\n"
             more = {} if is_well else {"output": "", "reset": ""}
-            yield (f"a tty that runs {title}, {of}", lambda of=of, case=well if is_well else off,
+            yield (f"a tty that runs at {of} baud", lambda of=of, case=well if is_well else off,
                    more=more: terminal(*case, rates=of, **more))
     yield ("a tty that does not run so fast", lambda: terminal(
         "< 3B1095", [*reset, SET.format(111600, "even"), *END],

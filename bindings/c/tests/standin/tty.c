@@ -17,9 +17,8 @@
  *   - many: the port takes at most four characters at once.
  *   - halves: after FF the port first has no character.
  *
- * STANDIN_RATES are the rates that the port takes for input and output, in thousandths of those that
- * it is set to. With or without STANDIN_TTY, STANDIN_CLOCK is how many times as fast the program's
- * clock runs.
+ * STANDIN_RATES are the rates for input and output that the port takes, whatever it is set to. With
+ * or without STANDIN_TTY, STANDIN_CLOCK is how many times as fast the program's clock runs.
  *
  * A pseudo terminal has no parity. So the other end writes the mark of a character with wrong
  * parity: FF 00 before it, and FF FF for FF. */
@@ -107,8 +106,8 @@ static void take_settings(const struct termios2 *wanted)
     char *next = NULL;
     settings = *wanted;
     if (rates != NULL) {
-        settings.c_ispeed = wanted->c_ispeed * (speed_t)strtoul(rates, &next, 10) / 1000;
-        settings.c_ospeed = wanted->c_ospeed * (speed_t)strtoul(next, NULL, 10) / 1000;
+        settings.c_ispeed = (speed_t)strtoul(rates, &next, 10);
+        settings.c_ospeed = (speed_t)strtoul(next, NULL, 10);
     }
     if (refuses("bits"))
         settings.c_cflag = (settings.c_cflag & ~(tcflag_t)CSIZE) | CS7;

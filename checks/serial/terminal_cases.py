@@ -614,6 +614,10 @@ def no_echoes_of_data():
                ["put", "5F20", "9000", *GET], "= 9000\n" + GOT, echo=False, slack=3000)
     yield Case("no echo of 9000, and the waiting time", put_words("9000") + "< 9000 ",
                ["put", "5F20", "9000"], "= 9000\n", echo=False, waits=0.2, late=0.5)
+    yield Case("no echo of 9000, and a waiting time beyond the patience",
+               "< 3B00 > 00DA5F2002 < DA > 9000 < 9000 > 00DA5F2002 < DA > 9000 < 9000 ",
+               ["put", "5F20", "9000"] * 2, "= 9000\n" * 2, options=["--patience", "1"],
+               echo=False)
     yield Case("no echo of 9000, and a byte before the next header",
                put_words("9000") + "< 9000 ~ 1.1 < 55", ["put", "5F20", "9000", *GET], "= 9000\n",
                "operation 2: unexpected byte\n", 1, options=["--quiet", "1000"], echo=False,

@@ -381,10 +381,14 @@ const char *line_refuse_echo(struct line *line, size_t n, int64_t wait)
 
 const char *line_refuse_more(struct line *line, int64_t wait)
 {
+    const int64_t until = line->port->until;
     enum port_result result;
     if (line->echo != LINE_HAS_NO_ECHO || !agrees(line, line->sent, line->sent_count))
         return NULL;
+    /* the card has answered in time */
+    line->port->until = INT64_MAX;
     result = come_in(line, 1, waits_until(line, wait));
+    line->port->until = until;
     if (result != PORT_IS_WELL)
         return result == PORT_IS_SILENT ? NULL : text_of(result);
     note_first(line);

@@ -154,7 +154,7 @@ ANYWHERE = [it for it in trials() if not it.places]
 def test_each_trial_has_its_row():
     assert set(CHANGES) == {it.name for it in ANYWHERE}
     assert len(trials()) == len({it.name for it in trials()}) == 65
-    assert all(it.clause.endswith(".") and it.does[-1].isalnum() for it in trials())
+    assert all(it.clause.endswith(".") and it.expected[-1].isalnum() for it in trials())
 
 
 @pytest.mark.parametrize("trial", ANYWHERE, ids=lambda it: it.name)

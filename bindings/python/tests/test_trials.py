@@ -173,13 +173,13 @@ def test_results(tmp_path, capsys, only, mistake, verdict, happened):
     found, status, page = run(tmp_path, only, mistake, limit=3 if verdict == "hung" else 20)
     listed = next(it for it in trials.trials() if it.name.startswith(only))
     assert (found["verdict"], found["happened"]) == (verdict, happened)
-    assert (found["does"], found["clause"]) == (listed.does, listed.clause)
+    assert (found["expected"], found["clause"]) == (listed.expected, listed.clause)
     assert status == (verdict not in ("right", "told"))
     said = f"; said: {found['said']}" * bool(found["said"])
-    assert (f"\n{verdict:7}  {found['name']}\n         expected: {listed.does}\n"
+    assert (f"\n{verdict:7}  {found['name']}\n         expected: {listed.expected}\n"
             f"         happened: {happened}{said}\n         clause: {listed.clause}\n"
             ) in capsys.readouterr().out
-    for cell in (verdict, happened + said, listed.does, listed.clause):
+    for cell in (verdict, happened + said, listed.expected, listed.clause):
         assert f"<td>{html.escape(cell)}" in page
     assert not re.search("[0-9A-F]{100}", found["said"].upper())  # a value is no message
     assert (f'<tr class="{verdict}">' in page) == (status == 1)

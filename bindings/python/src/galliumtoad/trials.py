@@ -50,7 +50,7 @@ class Trial:
     `may_miss` it. The rest is what a terminal made of it, `unmet` if it did not strike."""
     name: str
     faults: str
-    does: str
+    expected: str
     clause: str
     may_miss: bool = False
     verdict: str = "unmet"
@@ -67,8 +67,8 @@ class Trial:
         return {it.place for it in self.read().all} - {ANYWHERE}
 
     @property
-    def expected(self) -> list[str]:
-        return DOES[max((it for it in DOES if self.does.startswith(it)), key=len)]
+    def allowed(self) -> list[str]:
+        return DOES[max((it for it in DOES if self.expected.startswith(it)), key=len)]
 
     @property
     def ending(self) -> str:  # what happened, and the last line if it was no value
@@ -90,8 +90,8 @@ def trials() -> list[Trial]:
     (65, 'select without answer', 'command 1, mute')"""
     text = Path(__file__).with_name("trials.txt").read_text("utf-8")
     found = re.findall(r"^([^#\n].*?)(, may miss)?\n(.+)\n(.+)\n(.+)$", text, re.M)
-    return [Trial(name, faults, does, clause, bool(misses))
-            for name, misses, faults, does, clause in found]
+    return [Trial(name, faults, expected, clause, bool(misses))
+            for name, misses, faults, expected, clause in found]
 
 
 class Run(Simulator):
@@ -127,7 +127,9 @@ class Run(Simulator):
         held, sent = (it.hex().upper() for it in self.values())
         rest = printed.replace(sent, "-") if own in sent else printed
         has_read = bool(sent) and sent in printed and own not in rest
-        is_true = has_read if self.trial.does.startswith(PRINTS) else own == held and own in printed
+        is_true = own == held and own in printed
+        if self.trial.expected.startswith(PRINTS):
+            is_true = has_read
         what = "what it read" if has_read else "the value" if own in printed else "no value"
         on_card = "the value" if held == own else "another value" if held else "no value"
         end = "no end" if status is None else f"exit status {status}"
@@ -145,7 +147,7 @@ class Run(Simulator):
         if self.trial.faults and not self.struck:
             return "unmet"
         found, other = ("told", "failed") if status else ("right", "wrong")
-        return found if found in self.trial.expected else other
+        return found if found in self.trial.allowed else other
 
 
 def ended(trial: Trial, name: str, given: argparse.Namespace) -> bytes:
@@ -209,14 +211,14 @@ def first(given: argparse.Namespace) -> Trial:
 def as_text(it: Trial) -> str:
     """The lines of a trial."""
     return (f"{it.verdict + '*' * it.is_missed:7}  {it.name}\n"
-            f"         expected: {it.does}\n"
+            f"         expected: {it.expected}\n"
             f"         happened: {it.ending}\n         clause: {it.clause}")
 
 
 def as_html(results: list[Trial]) -> str:
     """The results as a page."""
     rows = [(it.verdict * it.is_bad, [it.name, it.faults, it.verdict + "*" * it.is_missed,
-                                      it.ending, it.does, it.clause]) for it in results]
+                                      it.ending, it.expected, it.clause]) for it in results]
     return f"{begin('Trials')}{table(HEAD, rows, has_ends=False)}<p>{STAR}</html>\n"
 
 
@@ -255,7 +257,7 @@ def main(words: Optional[list[str]] = None) -> int:
     """Runs the program. Returns the exit status."""
     given = parser().parse_args(words)
     if given.list:
-        print("\n\n".join(f"{it.name}: {it.faults}\nA good terminal {it.does}.\n{it.clause}"
+        print("\n\n".join(f"{it.name}: {it.faults}\nA good terminal {it.expected}.\n{it.clause}"
                           for it in trials()))
         return 0
     chosen, results = possible(given), list[Trial]()

@@ -244,4 +244,4 @@ def test_trials_over_a_reader(desk):
     done = subprocess.run([*words, "--", *job, "{reader}", "{aid}", "{tag}", "{value}"], text=True,
                           capture_output=True, env=desk.environment, timeout=280)
     assert (done.returncode, done.stderr) == (0, "")
-    assert "6 told" in done.stdout
+    assert done.stdout.endswith("2 right, 6 told\n")

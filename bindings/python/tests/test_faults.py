@@ -508,6 +508,15 @@ def test_forget_sends_no_procedure_byte_if_no_data_follow():
     assert said(it, SELECT, bytes.fromhex("00CA5F2006"))[1] == b"\x90\x00"
 
 
+@pytest.mark.parametrize(("text", "expected"), [
+    ("command 1, procedure 33", "336985"),
+    ("command 1, forget; command 1, procedure 33", "339000")])
+def test_a_procedure_byte_comes_before_a_status_alone(text, expected):
+    """The first byte of which is none."""
+    it, _ = simulator(text, 0)
+    assert said(it, bytes.fromhex("00CA5F2006")) == [bytes.fromhex(expected)]
+
+
 class Writes(Application):
     """Takes data of UPDATE BINARY alone."""
 

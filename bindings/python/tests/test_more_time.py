@@ -4,11 +4,15 @@ ISO/IEC 7816-3, 10.3.3 and 11.6.2.3."""
 import os
 import re
 import signal
+import threading
 import time
 from pathlib import Path
+from queue import SimpleQueue
 
 import pytest
+from galliumtoad import Application, OwnCard
 from galliumtoad.faults import block
+from galliumtoad.simulate import Simulator, serve_pty
 from test_applications import EXAMPLES, Card
 from waiting import AtPty, wait_until
 
@@ -83,6 +87,14 @@ def test_a_null_comes_in_time(works):
     (card.folder / "go").touch()
 
 
+def test_a_reserved_waiting_time_is_that_of_the_default(works):
+    """WI 0, as 10: a NULL each half second."""
+    card = works("--atr", "3B804000").open("3B804000")
+    card.talk(READ, 0)
+    time.sleep(1.2)
+    assert 1 <= len(card.read(100, 0)) <= 3
+
+
 @pytest.mark.parametrize("words", [["--no-echo"], []])
 @pytest.mark.parametrize("work", [SLEEPS, HOLDS])
 def test_at_t1(works, work, words):
@@ -90,14 +102,28 @@ def test_at_t1(works, work, words):
     card = works("--atr", T1, *words, work=work).open(T1)
     [multiple] = (asked := card.talk(block(0, 0, UPDATE), 5))[3:4]
     assert asked == block(0, MORE, bytes([multiple])) and not (card.folder / "ended").exists()
+    begun = time.monotonic()
     for _ in range(2):
         assert card.talk(block(0, MADE, asked[3:4]), 0) == b""
         assert card.read(5) == asked
+    assert 0.4 < (time.monotonic() - begun) / (0.1 * multiple) < 2  # half of what it asked for, twice
     (card.folder / "go").touch()
     wait_until((card.folder / "ended").exists)
     assert card.read(1, 0.5) == b""  # the answer waits for the response
     assert card.talk(block(0, MADE, asked[3:4]), 6) == block(0, 0, b"\x90\x00")
     assert card.talk(block(0, 0x40, READ), 9) == block(0, 0x40, b"JOE\x90\x00")
+
+
+def test_an_echo_waits_for_no_other_request(works):
+    """With a BWT of 1.6 seconds the next one comes later."""
+    card = works("--atr", "3B800181").open("3B800181")
+    asked = card.talk(block(0, 0, UPDATE), 5)
+    made = block(0, MADE, asked[3:4])
+    assert card.talk(made[:4], 0) == b""
+    os.write(card.line, made[4:])
+    assert card.read(1, 2) == made[4:]
+    (card.folder / "go").touch()
+    assert card.read(6) == block(0, 0, b"\x90\x00")
 
 
 @pytest.mark.parametrize("came", [block(0, 0x82, b""), block(0, MADE, b"\xff"),
@@ -163,6 +189,78 @@ def test_an_error_after_some_time(works, error, status, line):
     assert card.program.wait(20) == status
     wait_until(lambda: not is_there(keeper))
     assert card.end()[1].splitlines()[-1:] == [line] * bool(line)
+
+
+def test_a_keeper_takes_no_interrupt_and_stays(works):
+    """The application may take it. A reset begins no other process."""
+    card = works("--atr", T0).open(T0)
+    card.talk(READ, 1)
+    [keeper] = keepers(card)
+    os.kill(int(keeper), signal.SIGINT)
+    (card.folder / "go").touch()
+    assert card.read(100, 1)[-6:] == b"\xb0JOE\x90\x00"
+    card.close()
+    card.open(T0)
+    assert card.talk(READ, 6) == b"\xb0JOE\x90\x00" and keepers(card) == [keeper]
+
+
+class Own(Application):
+    """It works until a file is there, and fails if that is not empty."""
+
+    def __init__(self, go):
+        self.go = go
+
+    def takes_data(self, header):
+        return False
+
+    def carry_out(self, command):
+        wait_until(self.go.exists)
+        if self.go.read_text():
+            raise OSError(self.go.read_text())
+        return 0x9000, b""
+
+
+class Served:
+    """A card at a pseudo terminal in a thread of this process, and this end of it."""
+
+    def __init__(self, of):
+        names, self.of, self.has_echo = SimpleQueue(), of, False
+        self.thread = threading.Thread(target=serve_pty, args=(of, False, names.put), daemon=True)
+        self.thread.start()
+        self.name = names.get(timeout=60)
+
+    open, read, talk = AtPty.open, AtPty.read, AtPty.talk
+
+    def has_ended(self):
+        self.of.is_over.set()
+        self.thread.join(20)
+        return not self.thread.is_alive()
+
+
+def test_a_simulation_that_ends_while_a_terminal_is_silent(tmp_path):
+    """The request for time has no response. The process ends with the card."""
+    with Simulator(OwnCard(Own(tmp_path / "go")), bytes.fromhex(T1)) as of:
+        card = Served(of).open(T1)
+        assert card.talk(block(0, 0, READ), 5)[1] == MORE
+        [keeper] = Path(f"/proc/self/task/{card.thread.native_id}/children").read_text().split()
+        (tmp_path / "go").touch()
+        assert card.read(1, 0.5) == b"" and is_there(keeper)
+        assert card.has_ended()
+    assert not is_there(keeper)
+
+
+def test_an_application_whose_error_is_that_of_a_line(tmp_path):
+    """It resets the card, and a new process asks for time."""
+    with Simulator(OwnCard(Own(tmp_path / "go")), bytes.fromhex(T0)) as of:
+        card = Served(of).open(T0)
+        assert card.talk(READ, 1) == b"\x60"
+        (tmp_path / "go").write_text("no line")
+        assert card.read(100, 1).lstrip(b"\x60").hex().upper() == T0
+        (tmp_path / "go").unlink()
+        assert card.talk(READ, 2) == b"\x60\x60"
+        (tmp_path / "go").touch()
+        assert card.read(100, 1)[-2:] == b"\x90\x00"
+        assert card.has_ended()
 
 
 def test_a_keeper_that_is_gone_ends_the_simulation(works):

@@ -1,6 +1,7 @@
 """Tests the program `galliumtoad.simulate`: tables, a pseudo terminal, a tty, and vpcd, whose part
 a socket plays here."""
 
+import fcntl
 import io
 import os
 import pty
@@ -9,16 +10,17 @@ import select
 import socket
 import subprocess
 import sys
+import termios
 import threading
 import time
 import tty
 
 import pytest
-from galliumtoad import Card, simulate
+from galliumtoad import Application, Card, OwnCard, simulate
 from galliumtoad.faults import Faults, Mistake, block, read
-from galliumtoad.simulate import Simulator, main, read_table, serve_vpcd
+from galliumtoad.simulate import Line, Simulator, main, read_table, serve_vpcd
 from galliumtoad.trials import trials
-from waiting import AtPty
+from waiting import AtPty, wait_until
 
 AID = "A0000000031010"
 TABLE = f"app {AID}\nobject 5F20 4A4F45\nlocked 50 -\n"
@@ -151,6 +153,154 @@ def test_a_tty(files):
     assert program.wait(60) == 1
     error = program.stderr.read().decode()
     assert error.count("\n") == 1 and "Traceback" not in error
+
+
+@pytest.mark.parametrize(("atr", "parity"), [("3B00", 0), ("3F00", termios.PARODD)])
+def test_characters_of_a_tty(monkeypatch, atr, parity):
+    """Eight bits, two stop bits and the parity of the convention (ISO/IEC 7816-3, 7.2 and 8.1). A
+    pseudo terminal keeps no parity, so this looks at what it was asked for."""
+    _, theirs = pty.openpty()
+    asked = []
+    monkeypatch.setattr(simulate.termios, "tcsetattr", lambda *words: asked.append(words[2]))
+    of = Simulator(Card({bytes(5): {}}), bytes.fromhex(atr))
+    monkeypatch.setattr(Line, "talk", lambda line: of.is_over.set())
+    simulate.serve_tty(of, os.ttyname(theirs), 38400, "")
+    [(_, _, bits, modes, *rates, _)] = asked
+    wanted = termios.CS8 | termios.CREAD | termios.PARENB | termios.CSTOPB | parity
+    assert bits & (wanted | termios.CSIZE | termios.PARODD) == wanted
+    assert not modes & (termios.ICANON | termios.ECHO | termios.ISIG)
+    assert rates == [termios.B38400] * 2
+
+
+def test_a_tty_belongs_to_one_program(files):
+    """It is refused while another program has it, and held until the end."""
+    ours, theirs = pty.openpty()
+    words = [sys.executable, "-m", "galliumtoad.simulate", *files(), "--tty", os.ttyname(theirs)]
+    fcntl.flock(theirs, fcntl.LOCK_EX)
+    done = subprocess.run(words, stderr=subprocess.PIPE, text=True, timeout=60)
+    assert done.returncode == 1 and "Resource temporarily unavailable" in done.stderr
+    fcntl.flock(theirs, fcntl.LOCK_UN)
+    program = subprocess.Popen(words)
+    assert os.read(ours, 1) == b"\x3b"
+    with pytest.raises(BlockingIOError):
+        fcntl.flock(theirs, fcntl.LOCK_EX | fcntl.LOCK_NB)
+    program.kill()
+    program.wait()
+
+
+class AtTty:
+    """A card at a tty in a thread, and this end of it. `bits` is a file with the signals of the
+    line, as a driver returns them: a pseudo terminal has none."""
+
+    def __init__(self, of, bits, monkeypatch):
+        self.of, self.bits = of, bits
+        self.line, self.theirs = pty.openpty()
+        tty.setraw(self.theirs)
+        self.set(0)
+        monkeypatch.setattr(simulate.fcntl, "ioctl", lambda *_: bits.read_bytes())
+        words = of, os.ttyname(self.theirs), 9600, "dsr"
+        self.thread = threading.Thread(target=simulate.serve_tty, args=words, daemon=True)
+        self.thread.start()
+
+    def set(self, *signals):
+        made = self.bits.with_suffix(".new")
+        made.write_bytes(sum(signals).to_bytes(4, sys.byteorder))
+        made.rename(self.bits)
+        time.sleep(0.1)
+
+    def read(self, count, seconds=30):
+        return AtPty.read(self, count, seconds)
+
+    def is_answered(self, atr="3b00"):
+        """Resets the card, which is silent meanwhile, and takes nothing."""
+        self.set(termios.TIOCM_DSR)
+        os.write(self.line, SELECT[:3])
+        assert self.read(1, 0.3) == b""
+        self.set(0)
+        assert self.read(2).hex() == atr and self.read(1, 0.3) == b""
+
+    def end(self):
+        self.of.is_over.set()
+        self.set(termios.TIOCM_DSR)
+        self.set(0)
+        self.thread.join(60)
+        assert not self.thread.is_alive()
+
+
+def test_a_reset_by_a_signal(tmp_path, monkeypatch):
+    """One that is off holds no card in reset, nor does another signal."""
+    it = AtTty(Simulator(Card({bytes.fromhex(AID): {}})), tmp_path / "bits", monkeypatch)
+    it.set(termios.TIOCM_CTS | termios.TIOCM_CAR)
+    it.set(0)
+    assert it.read(1, 0.3) == b""
+    for _ in range(2):
+        it.is_answered()
+        os.write(it.line, SELECT[:5])
+        assert it.read(1).hex() == "a4"
+        it.set(termios.TIOCM_CTS | termios.TIOCM_CAR)
+        os.write(it.line, SELECT[5:])
+        assert it.read(2).hex() == "610b"
+        os.write(it.line, SELECT[:3])  # which the next reset drops
+    it.end()
+
+
+class Waits(Application):
+    """It works until a file is there."""
+
+    def __init__(self, go):
+        self.go = go
+
+    def takes_data(self, header):
+        return False
+
+    def carry_out(self, command):
+        wait_until(self.go.exists)
+        return 0x9000, b""
+
+
+def test_a_reset_while_an_application_works(tmp_path, monkeypatch):
+    """The answer to reset comes when it has ended, in place of the answer to the command."""
+    of = Simulator(OwnCard(Waits(tmp_path / "go")), bytes.fromhex("3B804001"))
+    with of:
+        it = AtTty(of, tmp_path / "bits", monkeypatch)
+        it.set(termios.TIOCM_DSR)
+        it.set(0)
+        assert it.read(4).hex() == "3b804001"
+        os.write(it.line, bytes.fromhex("8010000001"))
+        assert it.read(2) == b"\x60\x60"
+        it.set(termios.TIOCM_DSR)
+        it.set(0)
+        it.read(100, 0.3)
+        assert it.read(1, 0.5) == b""
+        (tmp_path / "go").touch()
+        assert it.read(100, 1).hex() == "3b804001"
+        os.write(it.line, bytes.fromhex("8010000001"))
+        assert it.read(2).hex() == "9000"
+        it.end()
+
+
+def test_no_character_stays_in_a_pseudo_terminal(at_pty):
+    """Neither one that the terminal has not read, nor one that the card has not."""
+    card = at_pty().open()
+    for sent in (b"", SELECT[:3], SELECT[:5] + SELECT):
+        os.write(card.line, sent)
+        card.read(1, 0.3)
+        card.close()
+        card.open()
+        assert card.read(1, 0.3) == b""
+        assert card.talk(SELECT[:5], 1).hex() == "a4"
+
+
+@pytest.mark.parametrize(("atr", "has_passed"), [("3B8081214F6F", False), ("3B8081214060", True)])
+def test_the_time_between_characters_of_a_block(at_pty, atr, has_passed):
+    """After CWT it has stopped: 11 + 2^CWI etu, 3.4 s with CWI 15, and 1.3 ms with 0 (ISO/IEC
+    7816-3, 11.4.3). The card waits for 0.2 s longer."""
+    card = at_pty(TABLE + f"atr {atr}\n", words=["--no-echo"]).open(atr)
+    command = block(0, 0, SELECT + b"\x00")
+    os.write(card.line, command[:7])
+    assert card.read(4, 1).hex() == "00820082" * has_passed
+    os.write(card.line, command if has_passed else command[7:])
+    assert card.read(17)[3:-1].hex() == "6f098407a00000000310109000"
 
 
 class Vpcd:

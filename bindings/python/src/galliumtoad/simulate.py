@@ -137,7 +137,7 @@ class Keeper:
                 self.way.close()
                 self.run(its)
             finally:
-                os._exit(0)
+                os._exit(0)  # also if the simulation has ended
         its.close()
 
     def close(self) -> None:
@@ -159,6 +159,7 @@ class Keeper:
         for it in told:
             self.line.tell(*it)
         if is_left:
+            self.line.was_left = True
             raise OSError("the terminal has left")
 
     @mistakes("the process that asks for more time has ended", EOFError, OSError)
@@ -174,12 +175,11 @@ class Keeper:
         """What the process does, until the simulation ends."""
         other, line = select.poll(), self.line
         other.register(way.fileno(), 0)
-        line.ends = lambda: bool(other.poll(0)) or line.is_left()
-        signal.signal(signal.SIGINT, signal.SIG_IGN)
-        with contextlib.suppress(EOFError, OSError):
-            while True:
-                line.of.level = way.recv()
-                way.send(self.asked(way))
+        line.ends = lambda: bool(other.poll(0))
+        signal.signal(signal.SIGINT, signal.SIG_IGN)  # which the application may take
+        while True:
+            line.of.level = way.recv()
+            way.send(self.asked(way))
 
     def asked(self, way: Connection) -> tuple[list[tuple[str, str]], bytes, bool]:
         """Asks for time until the application has ended. Returns the dialogue, a request of the
@@ -215,6 +215,7 @@ class Line(Application):
     keeper: Optional[Keeper] = None
     closed: Optional[select.poll] = None  # looks whether the terminal has left a pseudo terminal
     echo = "wrong echo"  # the fault of the next echo
+    was_left = False  # while an application worked, and the card has not been reset since
 
     def __init__(self, of: Simulator, fd: int, has_echo: bool = False, baud: int = 9600,
                  signal: str = "") -> None:
@@ -245,10 +246,11 @@ class Line(Application):
         return bool(self.closed.poll(0)) if self.closed else self.is_reset()
 
     def clear(self) -> None:
-        """Drops the characters in a pseudo terminal."""
-        if self.closed:
+        """Drops the characters that are on the line."""
+        with contextlib.suppress(termios.error):  # it has ended
             termios.tcflush(self.fd, termios.TCIOFLUSH)
-            tty.setraw(self.fd)  # also drops those that the terminal has not read
+            if self.closed:
+                tty.setraw(self.fd)  # drops those that the terminal has not read
 
     def read(self, seconds: float = FOREVER) -> bytes:
         """Returns the next character, or none if none came in this time. Raises `OSError` if the
@@ -283,6 +285,7 @@ class Line(Application):
         if isinstance(self.of.card, OwnCard) and not self.keeper:
             self.keeper = Keeper(self)
             self.of.callback(self.keeper.close)
+        self.was_left = False
         self.of.reset()
         self.write(self.of.atr)
         t, self.ahead = self.says.protocols[0], self.read()  # which may begin a PPS request
@@ -402,9 +405,11 @@ def serve_tty(of: Simulator, path: str, baud: int, signal: str) -> None:
     state[4] = state[5] = getattr(termios, f"B{baud}")
     termios.tcsetattr(fd, termios.TCSANOW, state)
     while not of.is_over.is_set():
-        for is_held in (True, False):
-            while signal and line.is_reset() != is_held:
-                time.sleep(LOOKS_EVERY / 10)
+        while signal and not (line.is_reset() or line.was_left):
+            time.sleep(LOOKS_EVERY / 10)
+        while signal and line.is_reset():
+            time.sleep(LOOKS_EVERY / 10)
+        line.clear()
         with contextlib.suppress(*[OSError] if signal else []):
             line.talk()
 

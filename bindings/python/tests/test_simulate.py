@@ -176,7 +176,7 @@ def test_a_tty_belongs_to_one_program(files):
     """It is refused while another program has it, and held until the end."""
     ours, theirs = pty.openpty()
     words = [sys.executable, "-m", "galliumtoad.simulate", *files(), "--tty", os.ttyname(theirs)]
-    fcntl.flock(theirs, fcntl.LOCK_EX)
+    fcntl.flock(theirs, fcntl.LOCK_SH)
     done = subprocess.run(words, stderr=subprocess.PIPE, text=True, timeout=60)
     assert done.returncode == 1 and "Resource temporarily unavailable" in done.stderr
     fcntl.flock(theirs, fcntl.LOCK_UN)
@@ -196,7 +196,7 @@ class AtTty:
         self.of, self.bits = of, bits
         self.line, self.theirs = pty.openpty()
         tty.setraw(self.theirs)
-        self.set(0)
+        self.set()
         monkeypatch.setattr(simulate.fcntl, "ioctl", lambda *_: bits.read_bytes())
         words = of, os.ttyname(self.theirs), 9600, "dsr"
         self.thread = threading.Thread(target=simulate.serve_tty, args=words, daemon=True)
@@ -216,13 +216,13 @@ class AtTty:
         self.set(termios.TIOCM_DSR)
         os.write(self.line, SELECT[:3])
         assert self.read(1, 0.3) == b""
-        self.set(0)
+        self.set()
         assert self.read(2).hex() == atr and self.read(1, 0.3) == b""
 
     def end(self):
         self.of.is_over.set()
         self.set(termios.TIOCM_DSR)
-        self.set(0)
+        self.set()
         self.thread.join(60)
         assert not self.thread.is_alive()
 
@@ -231,7 +231,7 @@ def test_a_reset_by_a_signal(tmp_path, monkeypatch):
     """One that is off holds no card in reset, nor does another signal."""
     it = AtTty(Simulator(Card({bytes.fromhex(AID): {}})), tmp_path / "bits", monkeypatch)
     it.set(termios.TIOCM_CTS | termios.TIOCM_CAR)
-    it.set(0)
+    it.set()
     assert it.read(1, 0.3) == b""
     for _ in range(2):
         it.is_answered()
@@ -241,6 +241,21 @@ def test_a_reset_by_a_signal(tmp_path, monkeypatch):
         os.write(it.line, SELECT[5:])
         assert it.read(2).hex() == "610b"
         os.write(it.line, SELECT[:3])  # which the next reset drops
+    it.end()
+
+
+def test_an_answer_that_a_reset_overtakes(tmp_path, monkeypatch):
+    """It is not sent, nor does it follow the answer to reset."""
+    faults = Faults(read("command 1, delay 0.5s"))
+    of = Simulator(Card({bytes.fromhex(AID): {}}), faults=faults)
+    it = AtTty(of, tmp_path / "bits", monkeypatch)
+    it.is_answered()
+    os.write(it.line, bytes.fromhex("00CA5F2006"))
+    it.set()
+    it.set(termios.TIOCM_DSR)
+    assert it.read(1, 1) == b""
+    it.set()
+    assert it.read(100, 0.5).hex() == "3b00"
     it.end()
 
 
@@ -264,12 +279,12 @@ def test_a_reset_while_an_application_works(tmp_path, monkeypatch):
     with of:
         it = AtTty(of, tmp_path / "bits", monkeypatch)
         it.set(termios.TIOCM_DSR)
-        it.set(0)
+        it.set()
         assert it.read(4).hex() == "3b804001"
         os.write(it.line, bytes.fromhex("8010000001"))
         assert it.read(2) == b"\x60\x60"
         it.set(termios.TIOCM_DSR)
-        it.set(0)
+        it.set()
         it.read(100, 0.3)
         assert it.read(1, 0.5) == b""
         (tmp_path / "go").touch()

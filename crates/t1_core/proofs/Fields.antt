@@ -1,6 +1,7 @@
 -- The fields that a chain is cut into.
 use Rattle.std.proofs.Common.{◌≡◌, ◌≢◌, refl, sym, ap, ◌∙◌, ℕ, Bool, true, false, cond, ◌+◌, zero, suc, ◌-◌, ◌<◌, List, [], ◌∷◌, ◌++◌, length, take, drop, length-drop, arith, nat_lt, rules, tests}
 use Rattle.std.proofs.lemmas.List.{take-append-drop}
+use Rattle.std.proofs.Math.Seq.{drop-append-add, take-append_seam}
 use Rattle.t1_core.specs.declared.terminal.Cause.TheVariants.{TooLong}
 use Rattle.t1_core.specs.declared.terminal.Phase.TheVariants.{GivenUp}
 use Rattle.t1_core.specs.Block.{more, other}
@@ -29,6 +30,18 @@ shorter_cut (suc n) zero bytes less = absurd (omega (arith, less))
 shorter_cut (suc n) (suc m) [] less = (refl, refl)
 shorter_cut (suc n) (suc m) (b ∷ bytes) less =
     let e = shorter_cut n m bytes (omega (arith, less)) in (ap (λ x. b ∷ x) e.0, e.1)
+
+-- bytes that are put behind others
+pub put_behind : (done more rest old now : List ℕ) (at : ℕ) → old ≡ done ++ rest
+    → at ≡ length done → now ≡ take at old ++ more ++ drop (at + length more) old
+    → now ≡ (done ++ more) ++ drop (length more) rest
+put_behind done more rest old now at is place put =
+    put
+    ∙ ap (λ o. take at o ++ more ++ drop (at + length more) o) is
+    ∙ ap (λ n. take n (done ++ rest) ++ more ++ drop (n + length more) (done ++ rest)) place
+    ∙ ap (λ l. l ++ more ++ drop (length done + length more) (done ++ rest))
+    (take-append_seam done rest)
+    ∙ ap (λ l. (done ++ more) ++ l) (drop-append-add done rest (length more))
 
 differs : (b : Bool) → other b ≢ b
 differs true same = absurd (cc)

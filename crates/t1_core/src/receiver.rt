@@ -2,6 +2,7 @@
 ghost use Rattle.std.specs.Prelude.{◌≡◌, ◌≤◌, ◌<◌, ◌+◌, ◌-◌, ◌++◌, ◌∷◌, [], List, ℕ, true, false, length, take, drop, replicate, ◌⊎◌, if◌then◌else◌};
 ghost use Rattle.t1_core.specs.BlockBytes.{is_whole, received};
 
+use crate::field::copy_at;
 use std::marker::Model;
 
 /// `clear` overwrites at least 16 bytes. A fixed number needs no call of `memset`, and most blocks
@@ -158,12 +159,4 @@ fn wipe(bytes: &mut [u8], len: usize)
     ensures { bytes.new ≡ replicate len 0 ++ drop len bytes.old }
 {
     bytes[..len].fill(0);
-}
-
-/// Copies `from` over the bytes at `at`.
-fn copy_at(bytes: &mut [u8], at: usize, from: &[u8])
-    requires { at + length from.now ≤ length bytes.old }
-    ensures { bytes.new ≡ take at bytes.old ++ from.now ++ drop (at + length from.now) bytes.old }
-{
-    bytes[at..at + from.len()].copy_from_slice(from);
 }

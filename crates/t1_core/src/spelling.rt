@@ -1,5 +1,5 @@
 //! The bytes of a block: NAD 00, PCB, LEN, the field and the LRC.
-ghost use Rattle.std.specs.Prelude.{◌≡◌, ◌≤◌, ◌<◌, ◌+◌, ◌++◌, ◌∷◌, [], List, ℕ, true, length, take, IfSome, Some, None};
+ghost use Rattle.std.specs.Prelude.{◌≡◌, ◌≤◌, ◌<◌, ◌+◌, ◌++◌, ◌∷◌, [], List, ℕ, true, length, drop, IfSome, Some, None};
 ghost use Rattle.std.specs.Option.{option_map};
 ghost use Rattle.t1_core.specs.Block.{Block as Sent, is_filled, said};
 ghost use Rattle.t1_core.specs.BlockBytes.{lrc, spelled, parts_of, block_of, block_in, bytes_of, fault_of, info_of, control_of, field_of, subject_of};
@@ -7,6 +7,7 @@ ghost use Rattle.t1_core.specs.declared.pcb.Pcb.{Pcb};
 ghost use Rattle.t1_core.specs.declared.pcb.Pcb.TheVariants.{Supervisory};
 
 use crate::block::{Block, Control};
+use crate::field::copy_at;
 use crate::pcb::{BlockReason, Pcb, Subject};
 
 /// The exclusive-or of all bytes (ISO/IEC 7816-3, clause 11: LRC).
@@ -20,16 +21,29 @@ pub fn lrc(bytes: &[u8]) -> u8
     sum
 }
 
-/// The longest block, in bytes: NAD, PCB, LEN, a field of 254 bytes, and the LRC.
-pub const BLOCK_ROOM: usize = 258;
+/// Returns how many bytes a block has: 4 to 258. Its field must have at most 254 bytes.
+pub fn size(block: Block<'_>) -> usize
+    requires { length (info_of (said block)) ≤ 254 }
+    ensures { result ≡ length (bytes_of (said block.entry)) }
+{
+    let info = match block {
+        Block::Information { info, .. } => info.len(),
+        Block::Ready { .. } => 0,
+        Block::Request(control) | Block::Response(control) => match control {
+            Control::Ifs(_) | Control::Wtx(_) => 1,
+            Control::Resynch | Control::Abort => 0,
+        },
+    };
+    info + 4
+}
 
-/// Writes the bytes of a block to the front of `out`, which has at least `BLOCK_ROOM`. Returns how
-/// many they are, 4 to 258. The block's field must have at most 254 bytes.
-pub fn write(block: Block<'_>, out: &mut [u8]) -> usize
+/// Writes the bytes of a block to the front of `out`, which has at least `size` of them. The rest
+/// stays. The block's field must have at most 254 bytes.
+pub fn write(block: Block<'_>, out: &mut [u8])
     requires field { length (info_of (said block)) ≤ 254 }
-    requires room { BLOCK_ROOM ≤ length out.old }
-    ensures bytes { take result out.new ≡ bytes_of (said block.entry) }
-    ensures room { (result ≤ BLOCK_ROOM) × (length out.new ≡ length out.old) }
+    requires room { length (bytes_of (said block)) ≤ length out.old }
+    ensures { out.new ≡ bytes_of (said block.entry)
+        ++ drop (length (bytes_of (said block.entry))) out.old }
 {
     match block {
         Block::Information { number, more, info } => {
@@ -44,11 +58,12 @@ pub fn write(block: Block<'_>, out: &mut [u8]) -> usize
     }
 }
 
-fn write_control(response: bool, control: Control, out: &mut [u8]) -> usize
-    requires { BLOCK_ROOM ≤ length out.old }
-    ensures bytes { take result out.new
-        ≡ spelled (Supervisory response (subject_of control)) (field_of control) }
-    ensures room { (result ≤ BLOCK_ROOM) × (length out.new ≡ length out.old) }
+fn write_control(response: bool, control: Control, out: &mut [u8])
+    requires { length (spelled (Supervisory response (subject_of control)) (field_of control))
+        ≤ length out.old }
+    ensures { out.new ≡ spelled (Supervisory response (subject_of control)) (field_of control)
+        ++ drop (length (spelled (Supervisory response (subject_of control)) (field_of control)))
+        out.old }
 {
     let pcb = |subject| Pcb::Supervisory { response, subject };
     match control {
@@ -59,27 +74,16 @@ fn write_control(response: bool, control: Control, out: &mut [u8]) -> usize
     }
 }
 
-fn spell(pcb: Pcb, info: &[u8], out: &mut [u8]) -> usize
+fn spell(pcb: Pcb, info: &[u8], out: &mut [u8])
     requires field { length info.now ≤ 254 }
-    requires room { BLOCK_ROOM ≤ length out.old }
-    ensures bytes { take result out.new ≡ spelled pcb info.now }
-    ensures room { (result ≤ BLOCK_ROOM) × (length out.new ≡ length out.old) }
+    requires room { length (spelled pcb info.now) ≤ length out.old }
+    ensures { out.new ≡ spelled pcb info.now ++ drop (length (spelled pcb info.now)) out.old }
 {
-    put(out, 0, &[0, pcb.byte(), info.len() as u8]);
-    put(out, 3, info);
+    copy_at(out, 0, &[0, pcb.byte(), info.len() as u8]);
+    copy_at(out, 3, info);
     let end = info.len() + 3;
     let check = lrc(&out[..end]);
-    put(out, end, &[check]);
-    end + 1
-}
-
-/// Copies bytes to this index.
-fn put(out: &mut [u8], at: usize, from: &[u8])
-    requires { at + length from.now ≤ length out.old }
-    ensures bytes { take (at + length from.now) out.new ≡ take at out.old ++ from.now }
-    ensures room { length out.new ≡ length out.old }
-{
-    out[at..at + from.len()].copy_from_slice(from);
+    copy_at(out, end, &[check]);
 }
 
 /// Decodes a whole block. `None` if `parts` returns `None`, or if the field has a wrong size. An

@@ -9,8 +9,8 @@ use command_card::{
 use std::alloc::{AllocError, AllocGlobal, Global};
 use std::process::Abort;
 use t0_core::{CardEnd, Gather, Plan, Plans, TpduCard};
-use t1_core::spelling::write;
-use t1_core::{Applet, Block, Control, PatientCard, Receiver};
+use t1_core::spelling::{size, write};
+use t1_core::{Applet, Block, Control, PatientCard, RESPONSE_ROOM, Receiver, rooms_for};
 
 /// Counts its commands. Each response has as many bytes as P1-P2 state, and the status is `9000`,
 /// or `6A82` without a byte. INS `10` takes data, every other INS takes none. INS `EE` runs out of
@@ -192,6 +192,14 @@ fn cards_carry_out_tpdus(rt: HostRuntime) {
     }
 }
 
+/// Bytes in no form of a command, or with an invalid INS, and their response.
+const NO_COMMANDS: [(&[u8], [u8; 2]); 4] = [
+    (b"", [0x67, 0x00]),
+    (b"\x00\x10\x00", [0x67, 0x00]),
+    (b"\x00\x10\x00\x00\x02\x41", [0x67, 0x00]),
+    (b"\x00\x60\x00\x00", [0x6D, 0x00]),
+];
+
 /// Whether the card carries out a command, and has memory for it.
 fn is_carried_out<C: Applet>(card: &mut C, bytes: &[u8], response: &mut Vec<u8>) -> bool {
     card.carry_out(bytes, response).is_ok() && !response.ends_with(&[0x65, 0x81])
@@ -203,7 +211,7 @@ fn cards_carry_out_whole_commands(rt: HostRuntime) {
     let mut card = AppletOf::new(alloc, Copied::new(Counter { count: 0 }));
     let mut applet = GivenApplet { end: given(alloc) };
     let mut end = given(alloc);
-    let mut response = Vec::new(alloc);
+    let mut response = Vec::with_capacity(alloc, RESPONSE_ROOM).expect(&rt, "memory");
     for number in 0..CALLS {
         let bytes = command(&rt, number);
         assert!(&rt;
@@ -219,8 +227,16 @@ fn cards_carry_out_whole_commands(rt: HostRuntime) {
         let command = Command::read(&bytes).expect(&rt, "a command");
         let done = respond_to(&mut end, command.header(), command.data(), command.le());
         assert!(&rt; done.is_ok(), "command {number}");
-        let mut fresh = Vec::new(alloc);
-        assert!(&rt; card.too_long(&mut fresh).is_ok() && applet.too_long(&mut fresh).is_ok());
+        for (bytes, status) in &NO_COMMANDS {
+            for done in [
+                card.carry_out(bytes, &mut response),
+                applet.carry_out(bytes, &mut response),
+            ] {
+                assert!(&rt; done.is_ok() && response == *status, "{bytes:?}");
+            }
+        }
+        assert!(&rt; card.too_long(&mut response).is_ok() && response == [0x67, 0x00]);
+        assert!(&rt; applet.too_long(&mut response).is_ok() && response == [0x67, 0x00]);
     }
 }
 
@@ -231,7 +247,9 @@ fn replies(
     block: Block<'_>,
 ) -> bool {
     let mut receiver = Receiver::new();
-    receiver.take_bytes(&write(rt.alloc(), block).expect(rt, "memory"));
+    let mut bytes = vec![in rt.alloc(); 0; size(block)].expect(rt, "memory");
+    write(block, &mut bytes);
+    receiver.take_bytes(&bytes);
     card.take(&mut receiver).is_some()
 }
 
@@ -240,7 +258,8 @@ fn replies(
 #[test]
 fn a_patient_card_replies(rt: HostRuntime) {
     let end = given(rt.alloc());
-    let mut card = PatientCard::new(rt.alloc(), GivenApplet { end });
+    let rooms = rooms_for::<GivenApplet>(rt.alloc()).expect(&rt, "memory");
+    let mut card = PatientCard::new(rooms, GivenApplet { end });
     let mut due = false;
     for number in 0..CALLS {
         let bytes = command(&rt, number);

@@ -1,7 +1,7 @@
 //! Tests of `card_terminal`, `apdu_terminal` and `t1_terminal`: memory that is there, or is
 //! refused.
 
-use crate::tools::{CALLS, Quiet, long, numbered, serves_after_refusals};
+use crate::tools::{CALLS, Lossy, Quiet, long, numbered, serves_after_refusals};
 use apdu_core::{Command, Header, Status};
 use apdu_terminal::{ApduExchange, ApduTerminal, apdu, begin, respond};
 use card_terminal::{
@@ -11,7 +11,7 @@ use object_card::{Aid, CardBuilder, DataCard, ObjectCard};
 use std::alloc::{AllocGlobal, Allocator, Global};
 use std::process::Abort;
 use t0_core::{CardEnd, Plans, Silent};
-use t1_core::{Applet, Edc, Settings};
+use t1_core::{Applet, Edc, Line, RESPONSE_ROOM, Settings};
 use t1_terminal::DataApplet;
 
 fn aid(rt: &impl Abort) -> Aid {
@@ -157,16 +157,29 @@ fn whole_commands_last(rt: HostRuntime) {
     }
 }
 
-/// The same over T=1.
+/// The same over T=1: all operations have their answers. Returns the card.
+fn operated_over(rt: &(impl Abort + AllocGlobal), line: &mut impl Line) -> DataApplet<ObjectCard> {
+    let alloc = rt.alloc();
+    let settings = Settings::new(Edc::Lrc, 254, 16, 1_000, 16_386).expect(rt, "settings");
+    let card = DataApplet::new(alloc, end(rt));
+    let ended = t1_terminal::run(alloc, card, line, settings, &ops(rt)).expect(rt, "memory");
+    assert!(rt; ended.fault.is_none());
+    ended.card
+}
+
+/// Blocks are lost and damaged.
+#[test]
+fn operations_over_a_bad_line_last(rt: HostRuntime) {
+    let mut line = Lossy::new(rt.alloc());
+    operated_over(&rt, &mut line);
+    assert!(&rt; line.count > 2 * CALLS);
+}
+
 #[test]
 fn operations_over_a_line_last(rt: HostRuntime) {
     let alloc = rt.alloc();
-    let settings = Settings::new(Edc::Lrc, 254, 4, 1_000, 16_386).expect(&rt, "settings");
-    let card = DataApplet::new(alloc, end(&rt));
-    let mut line = Quiet::new(alloc);
-    let ended = t1_terminal::run(alloc, card, &mut line, settings, &ops(&rt));
-    let mut card = ended.expect(&rt, "memory").card;
-    let mut response = Vec::new(alloc);
+    let mut card = operated_over(&rt, &mut Quiet::new(alloc));
+    let mut response = Vec::with_capacity(alloc, RESPONSE_ROOM).expect(&rt, "memory");
     for call in 0..CALLS {
         let mut bytes = Vec::new(alloc);
         command(&rt, &DATA, call)
@@ -177,7 +190,11 @@ fn operations_over_a_line_last(rt: HostRuntime) {
             "command {call}"
         );
         assert!(&rt;
-            card.too_long(&mut Vec::new(alloc)).is_ok(),
+            card.carry_out(&[0x00], &mut response).is_ok() && response == [0x67, 0x00],
+            "command {call}"
+        );
+        assert!(&rt;
+            card.too_long(&mut response).is_ok() && response == [0x67, 0x00],
             "command {call}"
         );
     }

@@ -68,3 +68,40 @@ impl Line for Quiet {
         }
     }
 }
+
+/// A line that delivers both blocks of each second exchange. Those between have each pair of fates
+/// in turn, so 16 tries suffice.
+#[derive(Drop)]
+pub struct Lossy {
+    passed: Vec<Fates>,
+    /// The number of exchanges so far.
+    pub count: usize,
+}
+
+impl Lossy {
+    pub fn new(alloc: Global) -> Lossy {
+        Lossy {
+            passed: Vec::new(alloc),
+            count: 0,
+        }
+    }
+}
+
+impl Line for Lossy {
+    // Ghost members must be there. Nothing proves this one.
+    ghost passed = { λ e. e.passed.items };
+
+    fn next(&mut self) -> Fates {
+        let fates = [Fate::Delivers, Fate::Damages, Fate::Loses];
+        let pair = if self.count % 2 == 0 {
+            0
+        } else {
+            self.count / 2 % 9
+        };
+        self.count += 1;
+        Fates {
+            down: fates[pair / 3],
+            up: fates[pair % 3],
+        }
+    }
+}

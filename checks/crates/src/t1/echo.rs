@@ -41,11 +41,14 @@ impl<const LIMIT: usize> Applet for Echo<LIMIT> {
 
     ghost Does = { λ _ _ _. Unit {0} };
 
+    ghost Refuses = { λ _ _. Unit {0} };
+
     fn carry_out(
         &mut self,
         command: &[u8],
         response: &mut Vec<u8>,
     ) -> Result<Requests, AllocError> {
+        response.reserve(command.len())?;
         response.clear();
         response.extend_from_slice(command)?;
         Ok(self.requests())

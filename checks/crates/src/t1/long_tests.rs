@@ -1,12 +1,13 @@
 //! Long dialogues at T=1, and worked blocks with errors.
 
 use super::echo::Echo;
-use crate::tools::{CALLS, Quiet, long};
+use crate::tools::{CALLS, Lossy, Quiet, long};
 use std::alloc::AllocGlobal;
 use std::process::Abort;
-use t1_core::spelling::write;
+use t1_core::spelling::{size, write};
 use t1_core::{
-    BlockCard, Damage, Edc, End, Ends, Found, Gathered, Settings, Tap, TerminalEnd, converse,
+    Block, BlockCard, Damage, Edc, End, Ends, Found, Gathered, Line, Settings, Tap, TerminalEnd,
+    converse, rooms_for,
 };
 
 /// The longest command that the card takes, and the longest response that the terminal takes.
@@ -15,7 +16,21 @@ const LIMIT: usize = 70_000;
 type Card = Echo<LIMIT>;
 
 fn settings(rt: &impl Abort) -> Settings {
-    Settings::new(Edc::Lrc, 254, 4, 1_000, LIMIT).expect(rt, "settings")
+    Settings::new(Edc::Lrc, 254, 16, 1_000, LIMIT).expect(rt, "settings")
+}
+
+/// The bytes of a block.
+fn written(rt: &(impl Abort + AllocGlobal), block: Block<'_>) -> Vec<u8> {
+    let mut bytes = vec![in rt.alloc(); 0; size(block)].expect(rt, "memory");
+    write(block, &mut bytes);
+    bytes
+}
+
+/// Both ends, which have carried nothing.
+fn ends(rt: &(impl Abort + AllocGlobal)) -> Ends<Card> {
+    let terminal = TerminalEnd::new(rt.alloc(), settings(rt)).expect(rt, "memory");
+    let rooms = rooms_for::<Card>(rt.alloc()).expect(rt, "memory");
+    Ends::new(terminal, rooms, Card::new())
 }
 
 /// The command with this number: of up to 299 bytes, and seldom as long as the card takes, or
@@ -35,8 +50,9 @@ fn command(rt: &(impl Abort + AllocGlobal), number: usize) -> Vec<u8> {
 #[test]
 fn ends_and_a_tap_last(rt: HostRuntime) {
     let alloc = rt.alloc();
-    let mut terminal = TerminalEnd::new(alloc, settings(&rt));
-    let mut card = BlockCard::new(alloc, Card::new());
+    let mut terminal = TerminalEnd::new(alloc, settings(&rt)).expect(&rt, "memory");
+    let rooms = rooms_for::<Card>(alloc).expect(&rt, "memory");
+    let mut card = BlockCard::new(rooms, Card::new());
     let (mut tap, mut gathered) = (Tap::new(Edc::Lrc), Gathered::new(alloc));
     for number in 0..CALLS {
         assert!(&rt;
@@ -44,40 +60,78 @@ fn ends_and_a_tap_last(rt: HostRuntime) {
             "command {number}"
         );
         while let Some(block) = terminal.next() {
-            let sent = write(alloc, block).expect(&rt, "memory");
+            let sent = written(&rt, block);
             let reply = card.take_bytes(&sent).expect(&rt, "memory");
-            let answer = write(alloc, card.block(reply)).expect(&rt, "memory");
+            let answer = written(&rt, card.block(reply));
             for (from, bytes) in [(End::Terminal, &sent), (End::Card, &answer)] {
                 assert!(&rt; tap.hear_run(from, bytes) == bytes.len());
                 let item = tap.item().expect(&rt, "an item");
                 gathered.add(item).expect(&rt, "memory");
             }
-            terminal.take_bytes(&answer).expect(&rt, "memory");
+            terminal.take_bytes(&answer);
         }
         assert!(&rt; terminal.is_ready() && gathered.bytes() == terminal.response());
     }
 }
 
-#[test]
-fn commands_are_carried(rt: HostRuntime) {
-    let mut ends = Ends::new(rt.alloc(), Card::new(), settings(&rt));
-    let mut line = Quiet::new(rt.alloc());
+/// Whether this is the card's response to the command.
+fn answers(command: &[u8], response: &[u8]) -> bool {
+    if command.len() > LIMIT {
+        response == [0x67, 0x00].as_slice()
+    } else {
+        response == command
+    }
+}
+
+/// Carries commands one at a time. One of 300 bytes takes 12 exchanges after IFSC 20, and the
+/// longest more than 3,000.
+fn carried_over(rt: &(impl Abort + AllocGlobal), line: &mut impl Line) {
+    let mut ends = ends(rt);
     for number in 0..CALLS {
-        let carried = ends.carry(&mut line, &command(&rt, number));
-        assert!(&rt; carried.is_ok() && ends.is_ready(), "command {number}");
+        let command = command(rt, number);
+        let carried = ends.carry(line, &command);
+        assert!(rt; carried.is_ok() && ends.is_ready(), "command {number}");
+        assert!(rt; answers(&command, ends.response()), "command {number}");
+    }
+}
+
+/// Carries a list of commands.
+fn conversed_over(rt: &(impl Abort + AllocGlobal), line: &mut impl Line) {
+    let mut commands = Vec::new(rt.alloc());
+    for number in 0..CALLS {
+        commands.push(command(rt, number)).expect(rt, "memory");
+    }
+    let ended = converse(rt.alloc(), Card::new(), line, settings(rt), &commands);
+    let ended = ended.expect(rt, "memory");
+    assert!(rt; ended.fault.is_none() && ended.answers.len() == CALLS);
+    for (command, answer) in commands.iter().zip(&ended.answers) {
+        assert!(rt; answers(command, answer));
     }
 }
 
 #[test]
+fn commands_are_carried(rt: HostRuntime) {
+    carried_over(&rt, &mut Quiet::new(rt.alloc()));
+}
+
+#[test]
 fn a_list_of_commands_is_carried(rt: HostRuntime) {
-    let mut commands = Vec::new(rt.alloc());
-    for number in 0..CALLS {
-        commands.push(command(&rt, number)).expect(&rt, "memory");
-    }
-    let mut line = Quiet::new(rt.alloc());
-    let card = Card::new();
-    let ended = converse(rt.alloc(), card, &mut line, settings(&rt), &commands);
-    assert!(&rt; ended.expect(&rt, "memory").answers.len() == CALLS);
+    conversed_over(&rt, &mut Quiet::new(rt.alloc()));
+}
+
+/// Blocks are lost and damaged: each pair of fates, hundreds of times.
+#[test]
+fn commands_are_carried_over_a_bad_line(rt: HostRuntime) {
+    let mut line = Lossy::new(rt.alloc());
+    carried_over(&rt, &mut line);
+    assert!(&rt; line.count > 2 * CALLS);
+}
+
+#[test]
+fn a_list_of_commands_is_carried_over_a_bad_line(rt: HostRuntime) {
+    let mut line = Lossy::new(rt.alloc());
+    conversed_over(&rt, &mut line);
+    assert!(&rt; line.count > 2 * CALLS);
 }
 
 /// NAD, PCB, LEN and EDC of ISO/IEC 7816-3, 11.3. The CRC is an example of ISO/IEC 14443-3, annex

@@ -200,6 +200,16 @@ const NO_COMMANDS: [(&[u8], [u8; 2]); 4] = [
     (b"\x00\x60\x00\x00", [0x6D, 0x00]),
 ];
 
+/// Whether the card answers bytes that are no command, and a command that is too long.
+fn answers_no_command<C: Applet>(card: &mut C, response: &mut Vec<u8>) -> bool {
+    for (bytes, status) in &NO_COMMANDS {
+        if card.carry_out(bytes, response).is_err() || response.as_slice() != status.as_slice() {
+            return false;
+        }
+    }
+    card.too_long(response).is_ok() && response.as_slice() == [0x67, 0x00].as_slice()
+}
+
 /// Whether the card carries out a command, and has memory for it.
 fn is_carried_out<C: Applet>(card: &mut C, bytes: &[u8], response: &mut Vec<u8>) -> bool {
     card.carry_out(bytes, response).is_ok() && !response.ends_with(&[0x65, 0x81])
@@ -227,16 +237,8 @@ fn cards_carry_out_whole_commands(rt: HostRuntime) {
         let command = Command::read(&bytes).expect(&rt, "a command");
         let done = respond_to(&mut end, command.header(), command.data(), command.le());
         assert!(&rt; done.is_ok(), "command {number}");
-        for (bytes, status) in &NO_COMMANDS {
-            for done in [
-                card.carry_out(bytes, &mut response),
-                applet.carry_out(bytes, &mut response),
-            ] {
-                assert!(&rt; done.is_ok() && response == *status, "{bytes:?}");
-            }
-        }
-        assert!(&rt; card.too_long(&mut response).is_ok() && response == [0x67, 0x00]);
-        assert!(&rt; applet.too_long(&mut response).is_ok() && response == [0x67, 0x00]);
+        assert!(&rt; answers_no_command(&mut card, &mut response));
+        assert!(&rt; answers_no_command(&mut applet, &mut response));
     }
 }
 

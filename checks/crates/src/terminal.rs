@@ -190,11 +190,12 @@ fn operations_over_a_line_last(rt: HostRuntime) {
             "command {call}"
         );
         assert!(&rt;
-            card.carry_out(&[0x00], &mut response).is_ok() && response == [0x67, 0x00],
+            card.carry_out(&[0x00], &mut response).is_ok()
+                && response.as_slice() == [0x67, 0x00].as_slice(),
             "command {call}"
         );
         assert!(&rt;
-            card.too_long(&mut response).is_ok() && response == [0x67, 0x00],
+            card.too_long(&mut response).is_ok() && response.as_slice() == [0x67, 0x00].as_slice(),
             "command {call}"
         );
     }

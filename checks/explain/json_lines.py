@@ -1,6 +1,6 @@
 """Tries `trace_explain --json` on every case: `json_lines.py PROGRAM..` prints a line `passed`, or
 what is wrong, for each case and program. Each line is an object that docs/trace_explain.schema.json
-allows, without a key twice. Its TPDUs are those of the text, in turn: number, header, status. With
+allows, without a key twice; it refuses those of wrong_lines.py. Its TPDUs are those of the text, in turn: number, header, status. With
 `--commands` each is in one command, which continues as long as the next TPDU does, and whose data
 are theirs joined. Without the module jsonschema the schema is left out, in a line `skipped`."""
 
@@ -16,6 +16,7 @@ sys.dont_write_bytecode = True
 HERE = Path(__file__).resolve().parent
 sys.path.insert(0, str(HERE))
 import cases  # noqa: E402
+import wrong_lines  # noqa: E402
 
 SCHEMA = HERE.parents[1] / "docs/trace_explain.schema.json"
 # What text shows of a TPDU. Digits of data may continue in the lines below.
@@ -160,7 +161,9 @@ def main(programs):
         except ValueError as error:
             said = str(error)
         print(f"--json, {Path(program).name}, {case.name}: {said}" if said else "passed")
-    if not VALIDATORS:
+    if VALIDATORS:
+        print(*(said or "passed" for said in wrong_lines.faults(VALIDATORS)), sep="\n")
+    else:
         print("skipped: the JSON Schema, since there is no module jsonschema")
 
 

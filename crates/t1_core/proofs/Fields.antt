@@ -1,11 +1,8 @@
 -- The fields that a chain is cut into.
-use Rattle.std.proofs.Common.{◌≡◌, ◌≢◌, refl, sym, ap, ◌∙◌, ℕ, Bool, true, false, cond, ◌+◌, zero, suc, ◌-◌, ◌<◌, List, [], ◌∷◌, ◌++◌, length, take, drop, length-drop, arith, nat_lt, rules, tests}
+use Rattle.std.proofs.Common.{◌≡◌, refl, sym, ap, ◌∙◌, ℕ, ◌+◌, zero, suc, ◌-◌, ◌<◌, List, [], ◌∷◌, ◌++◌, length, take, drop, length-drop, arith, nat_lt, rules, tests}
 use Rattle.std.proofs.lemmas.List.{take-append-drop}
 use Rattle.std.proofs.Math.Seq.{drop-append-add, take-append_seam}
-use Rattle.t1_core.specs.declared.terminal.Cause.TheVariants.{TooLong}
-use Rattle.t1_core.specs.declared.terminal.Phase.TheVariants.{GivenUp}
-use Rattle.t1_core.specs.Block.{more, other}
-use Rattle.t1_core.specs.TerminalSide.{Terminal, gathers, takes_field}
+use Rattle.t1_core.specs.Block.{more}
 
 more_is : (rest : List ℕ) → nat_lt 0 (length rest) ≡ more rest
 more_is [] = refl
@@ -42,19 +39,3 @@ put_behind done more rest old now at is place put =
     ∙ ap (λ l. l ++ more ++ drop (length done + length more) (done ++ rest))
     (take-append_seam done rest)
     ∙ ap (λ l. (done ++ more) ++ l) (drop-append-add done rest (length more))
-
-differs : (b : Bool) → other b ≢ b
-differs true same = absurd (cc)
-differs false same = absurd (cc)
-
-due_after : (long more : Bool) (t : Terminal) (f : List ℕ)
-    → (cond long (record t { phase = GivenUp TooLong; due = other t.due })
-    (takes_field more t f)).due ≡ other t.due
-due_after true more t f = refl
-due_after false true t f = refl
-due_after false false t f = refl
-
--- a field of the response moves the card's next N(S)
-pub field_is_due : (more : Bool) (t : Terminal) (f : List ℕ) → (gathers more t f).due ≢ t.due
-field_is_due more t f same = differs t.due
-    (sym (due_after (nat_lt t.settings.limit (length t.got + length f)) more t f) ∙ same)

@@ -645,7 +645,8 @@ module _ (m : Meaning) (before commands : List (List ℕ)) where
       (Some (reply_of m before reply.0 (heard m before k s).0 (heard m before k s).1)))
       (λ now told passing. answered at up reply.0 (out_at k s why) (heard m before k s).0
       (heard m before k s).1 tries extensions now told (is_heard m before k s)
-      (heard_holds m before commands k s holds) (passing.0, takes k s at _ told holds passing.1)) r t
+      (heard_holds m before commands k s holds)
+      (passing.0, takes k s at _ told holds passing.1)) r t
       (sends_one k s at why r t h))
 
   -- the terminal's block was heard, and has not arrived

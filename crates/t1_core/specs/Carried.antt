@@ -68,8 +68,8 @@ with_command past command t = record past {
 }
 
 -- The commands of `past` led to both ends. `did` is what the card has carried out, `line` what the
--- line has done since the reset, `fates` what the ends heard of it. Further commands, given at once with these, would lead to the same
--- ends with these further commands to send (`leads`).
+-- line has done since the reset, and `fates` what the ends heard of it. Further commands, given at
+-- once with these, would lead to the same ends with these further commands to send (`leads`).
 pub record HasCarried {C : Type 0} (a : Ghosts C) (past : Past a.State) (now : List Fates)
     (e : EndsOf C) : Type 0 where
   pub did : List Did

@@ -42,8 +42,8 @@ pub trait Applet {
     ghost Refuses: { State → List ℕ → Type 0 };
 
     /// Carries out a command, and returns the requests to make before its response. The response
-    /// replaces the contents of `response`, which are overwritten. There is room for `RESPONSE_ROOM`
-    /// bytes.
+    /// replaces the contents of `response`, which are overwritten. There is room for
+    /// `RESPONSE_ROOM` bytes.
     ///
     /// # Errors
     /// - `AllocError`: memory ran out, or the response must wait (`PatientCard`); the command is

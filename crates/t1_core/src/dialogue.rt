@@ -30,8 +30,8 @@ pub struct Conversation<C> {
 /// enough for the settings (`laws::mild_lines_are_survived`) there is no fault.
 ///
 /// # Errors
-/// - `AllocError`: memory ran out before the first block, or between two commands. Those before have
-///   been carried out, and have their answers; both ends, the card and the answers are dropped.
+/// - `AllocError`: memory ran out before the first block, or between two commands. Those before
+///   have been carried out, and have their answers; both ends, the card and the answers are dropped.
 pub fn converse<C: Applet + Drop, L: Line>(
     alloc: Global,
     applet: C,

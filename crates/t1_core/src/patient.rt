@@ -122,7 +122,8 @@ impl<C: Applet> PatientCard<C> {
     /// It is the whole command: `again` carries out no other. `None` if it is longer than
     /// `Applet::LIMIT`, if the kept block ends no command, or if `awaits` does not hold.
     pub fn command(&self) -> Option<(&[u8], &[u8])>
-        ensures { option_map (λ parts. parts.0.now ++ parts.1.now) result ≡ command_in C.LIMIT self.now }
+        ensures { option_map (λ parts. parts.0.now ++ parts.1.now) result
+            ≡ command_in C.LIMIT self.now }
     {
         if !self.awaits() || self.end.is_over() {
             return None;

@@ -120,7 +120,7 @@ impl Reading {
         }
     }
 
-    /// Goes on after that item.
+    /// Passes that item.
     pub(crate) fn pass(&mut self, from: End, found: Found<'_>)
         requires { IsShort (seen found) }
         ensures { self.new ≡ (reads self.old from (seen found.entry)).1 }

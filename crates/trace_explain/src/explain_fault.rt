@@ -66,8 +66,8 @@ pub enum ExplainFault {
         line: u64,
         note: Excerpt,
     },
-    /// The trace has ended, and no block of T=1 was valid. This many were damaged, or cut off by the
-    /// other end.
+    /// The trace has ended, and no block of T=1 was valid. This many were damaged, or cut off by
+    /// the other end.
     #[error("no valid block of T=1 (invalid: {invalid})")]
     NoValidBlock {
         invalid: u64,

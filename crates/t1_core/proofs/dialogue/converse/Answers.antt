@@ -13,7 +13,8 @@ loop-command-init g c = record {
   carried = subst (λ answers. HasCarried g.C.Applet (first_of g.C.Applet (λ v. v.items)
       c.args.settings (g.C.Applet.standing c.args.applet) (g.L.Line.passed c.args.line.now)
       c.args.commands.now 0 answers) (g.L.Line.passed c.args.line.now) c.new-ends.result)
-      (sym c.new-answers.ensures.items) (c.new-ends.ensures.led c.args.settings (g.L.Line.passed c.args.line.now)
+      (sym c.new-answers.ensures.items)
+      (c.new-ends.ensures.led c.args.settings (g.L.Line.passed c.args.line.now)
       c.in_ok-terminal.ensures);
 }
 
@@ -96,7 +97,8 @@ returns-in_err-carry-clause-memory g c =
     (g.L.Line.passed c.loop-command.line) c.loop-command.ends told.carried
     (omega (arith, lt)) told.ready))
 
-pub returns-in_err-extend_from_slice-clause-memory : goal.returns-in_err-extend_from_slice-clause-memory
+pub returns-in_err-extend_from_slice-clause-memory :
+    goal.returns-in_err-extend_from_slice-clause-memory
 returns-in_err-extend_from_slice-clause-memory g c =
     let ready = sym c.is_ready.ensures ∙ c.if-not-is_ready.false in
     on_err _ (one_more_conversed g.C.Applet (λ v. v.items) c.args.settings

@@ -1,8 +1,9 @@
 """Tries `trace_explain --json` on every case: `json_lines.py PROGRAM..` prints a line `passed`, or
 what is wrong, for each case and program. Each line is an object that docs/trace_explain.schema.json
-allows, without a key twice; it refuses those of wrong_lines.py. Its TPDUs are those of the text, in turn: number, header, status. With
+allows, without a key twice. Its TPDUs are those of the text, in turn: number, header, status. With
 `--commands` each is in one command, which continues as long as the next TPDU does, and whose data
-are theirs joined. Without the module jsonschema the schema is left out, in a line `skipped`."""
+are theirs joined. The schema has to refuse the objects of wrong_lines.py. Without the module
+jsonschema the schema is left out, in a line `skipped`."""
 
 import json
 import re

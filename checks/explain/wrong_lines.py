@@ -109,8 +109,8 @@ def right_ones():
         yield from (needed, whole)
         yield from ({**found, key: None, "masked": True} for found in (needed, whole)
                     for key in found if hides(found["type"], key))
-    yield from ({**TPDU, **it} for it in (
-        {"continues": 1}, {"le": None}, {"objects": [{"tag": "5A", "value": None, "masked": True}]}))
+    hides_one = {"objects": [{"tag": "5A", "value": None, "masked": True}]}
+    yield from ({**TPDU, **it} for it in ({"continues": 1}, {"le": None}, hides_one))
 
 
 def wrong_ones():
@@ -125,7 +125,8 @@ def wrong_ones():
                 {"tag": "70", "objects": []}, {**TAGGED, "masked": True},
                 {"tag": "5A", "value": None}, {"tag": "5A", "value": None, "masked": False},
                 {"tag": "5A", "name": "x", "value": None, "masked": True},
-                {"tag": "5A", "words": "x", "value": "4A"}, {"tag": "5A", "name": "x", "words": "y"}):
+                {"tag": "5A", "words": "x", "value": "4A"},
+                {"tag": "5A", "name": "x", "words": "y"}):
         yield {**TPDU, "objects": [one]}
     for left in MORE["summary"]["blocks"]:
         blocks = {key: it for key, it in MORE["summary"]["blocks"].items() if key != left}

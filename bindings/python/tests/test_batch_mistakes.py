@@ -156,6 +156,11 @@ def test_a_mistake_is_named_before_any_card(tmp_path, mistake):
     assert not room.held() and not (tmp_path / "journal").exists()
 
 
+def test_check_of_one_row(tmp_path):
+    room = Room(tmp_path, 1)
+    assert room.run("--check", "--new") == (0, "1 row, and no mistake\n", "")
+
+
 def test_check_finds_no_mistake_and_writes_nothing(tmp_path):
     room = Room(tmp_path, 2)
     before = sorted(it.name for it in tmp_path.iterdir())

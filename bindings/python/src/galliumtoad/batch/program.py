@@ -125,7 +125,8 @@ def work(given: argparse.Namespace) -> int:
         desk.chosen(given.reader)
     journals = opened(given, rows)
     if given.check:
-        print(f"{len(rows)} rows, and no mistake", flush=True)
+        many = "1 row" if len(rows) == 1 else f"{len(rows)} rows"
+        print(f"{many}, and no mistake", flush=True)
         return 0
     if given.look:
         return desk.look(rows, journals[0], given)

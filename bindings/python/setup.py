@@ -4,7 +4,6 @@
 import os
 import platform
 import re
-import sys
 from pathlib import Path
 
 import cffi
@@ -31,22 +30,13 @@ def declarations():
     return "\n".join([f"#define {name} ..." for name in numbers] + public)
 
 
-def find_archive():
-    """The archive for this Python's system."""
-    made = {it.parent.name.split("-")[0]: it for it in BINDINGS.glob("lib/*-linux-gnu/libcard_c.a")}
-    system, processor = platform.system(), platform.machine()
-    libc = platform.libc_ver()[0] or "no glibc"
-    bits = 64 if sys.maxsize > 1 << 32 else 32
-    if (system, libc, bits) != ("Linux", "glibc", 64) or processor not in made:
-        raise SystemExit("galliumtoad: the library is for Linux with glibc and 64 bits on"
-                         f" {' or '.join(sorted(made))}; this Python is for {system} with {libc}"
-                         f" and {bits} bits on {processor}")
-    return made[processor]
-
-
 def builder():
     """The extension module, for cffi's hook in setuptools."""
-    archive = find_archive()
+    here = f"{platform.architecture()[0]} {platform.system()}, libc {platform.libc_ver()[0] or '?'}"
+    archive = BINDINGS / "lib" / f"{platform.machine()}-linux-gnu" / "libcard_c.a"
+    if here != "64bit Linux, libc glibc" or not archive.is_file():
+        raise SystemExit("galliumtoad: needs 64bit Linux, libc glibc, on aarch64 or x86_64; this is"
+                         f" {here}, on {platform.machine()}")
     there = archive.read_text("latin-1")
     if lacks := [it for it in re.findall(r"\bgalliumtoad_\w+(?=\()", TEXT) if it not in there]:
         raise SystemExit(f"galliumtoad: {archive} is not that of the header: no {lacks[0]}")

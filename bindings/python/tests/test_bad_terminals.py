@@ -20,7 +20,7 @@ def tried(tmp_path, only, mistake, *words, limit=30):
     return status, {it["name"]: it["verdict"] for it in json.loads(made.read_text() or "[]")}
 
 
-# A mistake; the first trial that finds it, its verdict, and T of the card.
+# A mistake, a trial that finds it, and its verdict.
 MISTAKES = [
     ("no status", "select warns", "wrong"),
     ("no status", "put refused in the middle", "wrong"),
@@ -39,12 +39,16 @@ MISTAKES = [
     ("a warning", "get that may be damaged", "wrong"),
     ("any 9XXX", "put with a reserved status", "wrong"),
     ("any 90XX", "put with a reserved status", "wrong"),
+    ("any XX00", "put warns at the end", "wrong"),
+    ("6281", "get that may be damaged", "wrong"),
+    ("any 68XX", "put that must be last", "wrong"),
     ("any 6XXX but 69, 6A", "put without chaining", "wrong"),
     ("any 6XXX but 69, 6A", "get with an error", "wrong"),
     ("the tag not compared", "get with a wrong tag", "wrong"),
     ("the length not compared", "get with a wrong length", "wrong"),
     ("a cut value", "get with a wrong length", "wrong"),
     ("a cut value", "get cut", "wrong"),
+    ("too much taken", "get with too much", "wrong"),
     ("the value printed that was put", "get with a wrong bit", "wrong"),
     ("the value printed that was put", "get of another value", "wrong"),
     ("the value printed that was put", "put forgotten in the middle", "wrong"),
@@ -57,11 +61,14 @@ MISTAKES = [
     ("NULL not known", "nulls before the answer", "failed"),
     ("the echo of a header not compared", "echo that differs", "wrong"),
     ("the echo of data not compared", "echo of data that differs", "wrong"),
+    ("one NULL at most", "nulls before the answer", "failed"),
     ("an early status", "status before the data", "wrong"),
     ("6CXX ignored", "get with another length", "failed"),
     ("6CXX for ever", "get that asks for a length again and again", "hung"),
     ("61XX for ever", "get without an end", "hung"),
     ("a piece sent again", "put with another length", "twice"),
+    ("a refused piece sent again", "put refused in the middle", "wrong"),
+    ("a warned piece sent again", "put warns in the middle", "wrong"),
     ("goes on after a reset", "put with a reset in the middle", "wrong"),
     ("no limit of time", "select without answer", "hung"),
     ("crashes at a refusal", "select refused", "crashed"),
@@ -69,19 +76,23 @@ MISTAKES = [
     ("exit 0 always", "put without answer at the end", "wrong"),
     ("a wrong check", "block with a wrong check", "wrong"),
     ("a lost block not asked for", "block lost", "failed"),
+    ("a second block not dropped", "block twice", "failed"),
+    ("no more time granted", "extension of 255", "failed"),
 ]
+AT_T1 = ["block", "extension", "get with too much"]  # begins the name of such a trial
 
 
 @pytest.mark.parametrize(("mistake", "name", "verdict"), MISTAKES)
 def test_a_mistake_is_found(tmp_path, mistake, name, verdict):
-    t = "1" if name.startswith("block") else "0"
+    t = "1" if name.startswith(tuple(AT_T1)) else "0"
     limit = 3 if verdict == "hung" else 30
     status, found = tried(tmp_path, name, mistake, "--protocol", t, limit=limit)
     assert (status, found["no fault"], found[name]) == (1, "right", verdict)
 
 
 @pytest.mark.parametrize(
-    "mistake", ["61XX ignored", "one 61XX followed", "no chaining bit", "hangs", "crashes"])
+    "mistake", ["61XX ignored", "one 61XX followed", "no chaining bit", "no select", "puts twice",
+                "exit 1 always", "hangs", "crashes"])
 def test_what_fails_without_a_fault_is_not_tried(tmp_path, capsys, mistake):
     """Nor is it judged: such mistakes need no fault."""
     assert tried(tmp_path, "refused", mistake, limit=2) == (2, {})

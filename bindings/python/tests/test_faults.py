@@ -136,7 +136,7 @@ CHANGES = {
     "get refused at its second part": {6: b"\x6f\x00"},
     "get cut": {5: FIRST[:-3] + b"\x61\x00"},
     "get without data": {5: b"\x90\x00"},
-    "get with too much": {5: FIRST + b"\x5a\x5a\x5a\x61\x00"},
+    "get with too much": {7: ANSWERS[6][:-2] + b"\x5a\x5a\x5a\x90\x00"},
     "get with a wrong tag": {5: b"\x50" + FIRST[1:] + b"\x61\x00"},
     "get with a wrong length": {5: FIRST[:2] + b"\x03" + FIRST[3:] + b"\x61\x00"},
     "get with a wrong bit": {5: FIRST[:12] + bytes([FIRST[12] ^ 0x10]) + FIRST[13:] + b"\x61\x00"},

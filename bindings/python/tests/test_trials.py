@@ -53,7 +53,7 @@ EITHER, PRINTS = "succeeds or reports", "prints what it read"
 def test_verdicts(does, pieces, output, verdict):
     it = with_put(does, *pieces)
     it.struck.append("struck")
-    for text in (output.hex(), f"it is\n{output.hex(' ').upper()}"):
+    for text in (output.hex(), f"it is\n{output.hex(' ').upper()}", output.hex(":")):
         assert it.judge(0, text)[0] == verdict
         assert it.judge(None, text)[0] == "hung" and it.judge(-11, text)[0] == "crashed"
         assert it.judge(139, text)[0] == it.judge(128 + signal.NSIG - 1, text)[0] == "crashed"

@@ -214,7 +214,6 @@ class Line(Application):
     card's, which replaces it. The last block has what exceeds the response to a short command."""
     keeper: Optional[Keeper] = None
     closed: Optional[select.poll] = None  # looks whether the terminal has left a pseudo terminal
-    echo = "wrong echo"  # the fault of the next echo
     was_left = False  # while an application worked, and the card has not been reset since
 
     def __init__(self, of: Simulator, fd: int, has_echo: bool = False, baud: int = 9600,
@@ -225,6 +224,7 @@ class Line(Application):
             if says.protocols[0] > 1 or says.t1.edc != Edc.LRC or (
                     says.specific and says.rate_code != DEFAULT_RATE):
                 raise ValueError(of.atr.hex().upper())
+        self.echo = "wrong echo"  # the fault of the next one
         self.of, self.fd, self.has_echo, self.heard, self.ahead = of, fd, has_echo, b"", b""
         self.turned = TURNED if of.atr[0] == 0x3F else None
         self.bit, self.cwt = SIGNALS.get(signal, 0), 0.2 + says.t1.cwt_etu / baud

@@ -69,6 +69,14 @@ def test_a_fault_that_did_not_strike(does):
     assert it.judge(0, "")[0] == "wrong"
 
 
+def test_what_select_brought_is_no_value():
+    it, choose = Run(trials.trials()[0], 0), "00A4040007A0000000031010"
+    for tpdu, expected in [(choose, "6a82"), (choose, "610b"),
+                           ("00C000000B", "6f098407a00000000310109000")]:
+        assert it.whole(bytes.fromhex(tpdu)).hex() == expected
+    assert it.judge(1, "8407A0000000031010")[1].startswith("exit status 1; printed no value; ")
+
+
 PIECE, OTHER, GET, SELECT = "10DA00510141", "10DA00510142", "00CA005100", "00A4040000"
 
 

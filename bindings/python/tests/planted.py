@@ -128,7 +128,7 @@ def expect(place, status):
     if status != 0x9000 and has("crashes at a refusal"):
         os.kill(os.getpid(), signal.SIGSEGV)
     if status != 0x9000 and not (str(place) in places and re.match(form, f"{status:04X}")):
-        sys.exit(f"{status:04X} at command {place}")
+        sys.exit(f"{status:04X} at command {place}" + "\x1B" * has("a control character printed"))
 
 
 def choose():

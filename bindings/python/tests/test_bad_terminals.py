@@ -25,6 +25,7 @@ MISTAKES = [
     ("no status", "select warns", "wrong"),
     ("no status", "put refused in the middle", "wrong"),
     ("no status", "get with an error", "wrong"),
+    ("no status of select", "select refused", "wrong"),
     ("no status of select", "select warns", "wrong"),
     ("no status of the put", "put refused at the first piece", "wrong"),
     ("no status of the put", "put warns at the end", "wrong"),

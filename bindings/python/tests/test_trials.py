@@ -193,6 +193,12 @@ def test_results(tmp_path, capsys, only, mistake, verdict, happened):
     assert (f'<tr class="{verdict}">' in page) == (status == 1)
 
 
+def test_the_last_line_controls_no_terminal(tmp_path, capsys):
+    found, _, _ = run(tmp_path, "select refused", "a control character printed")
+    assert found["said"] == "6A82 at command 1\\x1b"
+    assert "; said: 6A82 at command 1\\x1b\n" in capsys.readouterr().out
+
+
 def test_a_fault_that_does_not_strike_is_a_failure(tmp_path, capsys):
     """Unless the list says that a good terminal may miss it, and it succeeded."""
     status, counts = run(tmp_path, "select with a wrong template", "no template fetched")[1], ""

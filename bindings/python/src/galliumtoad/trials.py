@@ -21,7 +21,7 @@ from .faults import ANYWHERE, CONTROLS, GET_RESPONSE, T1, Faults, Mistake, numbe
 from .pages import begin, table
 from .simulate import MUTE_FOR, VPCD, Simulator, connected, serve_pty, talk_vpcd
 
-AID, TAG = bytes.fromhex("A0000000031010"), 0x51
+AID, OTHER, TAG = bytes.fromhex("A0000000031010"), bytes.fromhex("A0000000041010"), 0x51
 VALUE = bytes(it % 251 for it in range(600))  # so that no two pieces of it are equal
 SELECT = bytes([0x00, 0xA4, 0x04, 0x00, len(AID)]) + AID
 JOB = bytes.fromhex("A4DADADACA")  # INS of its commands
@@ -99,10 +99,15 @@ class Run(Simulator):
     data that it sent for the last GET DATA."""
 
     def __init__(self, trial: Trial, protocol: int) -> None:
-        self.trial, self.table, self.sent = trial, Card({AID: {}}), b""
+        self.trial, self.table, self.sent = trial, Card({AID: {}, OTHER: {}}), b""
         self.struck, self.commands = list[str](), list[bytes]()
         super().__init__(self.table, ATRS[protocol], trial.read(SELECT))
         self.carried_out, self.faults.tell = self.commands.append, self.struck.append
+
+    def reset(self) -> None:
+        """Resets the card, which then selects another application by itself, as many cards do."""
+        super().reset()
+        self.table.apdu(SELECT[:5] + OTHER)
 
     def whole(self, data: bytes, more: Optional[Callable[[], bytes]] = None) -> bytes:
         answer = super().whole(data, more)

@@ -9,7 +9,9 @@ PHRASES = "checks/house/phrases.txt"
 TOOL = "tools/lamp.c"
 
 SOUND = {
-    "crates.txt": "low:\nhigh: low\n",
+    "crates.txt": "low:\nhigh: low\n# index.txt\n",
+    "index.txt": "plain.txt phrases.txt stays.txt crates.txt lamp.c LAMPS.md TOUR.md RULES.md\n"
+                 "lamp.h lamp.help lamp.sh lamp.py LIT lib wire Shade enter lamp\n",
     LIST: "# nothing has to stay\n",
     DONE: "# what is plain\ncrates/low/\ndocs/LAMPS.md\ntools/\nbindings/lamp.h\n",
     PHRASES: "# phrases\nis told: shows\n",
@@ -78,6 +80,9 @@ ON_WIRE = "{Hanging, On_nothing, On_wire}"
 LONG = "x" * 101
 PAGE = "docs/LAMPS.md"
 TOUR = "docs/TOUR.md"
+PY, MAKE = "tools/lamp.py", "tools/Makefile"
+# apart, or the check reads this file as a program with that option
+ADDS = "add_argument"
 RULES = "docs/RULES.md"
 MOST = " ".join(["Word"] + ["word"] * 34)
 MANY = " ".join(["Word"] + ["word"] * 24)
@@ -94,6 +99,28 @@ FAULTS = [
         (HOUSE, NAMED, "IsDark (On_wire w) =\n    w.length ≡ 0"), (HOUSE, IMPORTED, ON_WIRE),
     ]),
     ("unreached", HOUSE, 6, [(HOUSE, NAMED, f"{NAMED}\n\nlost : Type 0\nlost = ⊤")]),
+    ("left", PY, 1, [(PY, None, "def flickers():\n    pass\n")]),
+    ("left", PY, 1, [(PY, None, "class Flicker:\n    pass\n")]),
+    ("left", PY, 1, [(PY, None, "WATTS = 3\n")]),
+    ("left", PY, 1, [(PY, None, f'parser.{ADDS}("--watts")\n')]),
+    ("left", TOOL, 2, [(TOOL, "lamp. */\n", "lamp. */\nstatic int glow(int watts)\n{\n}\n")]),
+    ("left", TOOL, 2, [(TOOL, "lamp. */\n", "lamp. */\nint glow(void) {\n}\n")]),
+    ("left", TOOL, 2, [(TOOL, "lamp. */\n", "lamp. */\n#define GLOW 1\n")]),
+    ("left", TOOL, 3, [(TOOL, "lamp. */\n", "lamp. */\nenum {\n    GLOW = 1,\n};\n")]),
+    ("left", LAMP, 4, [(LAMP, "pub struct Lamp;", "const WATTS: u8 = 3;\n\npub struct Lamp;")]),
+    ("left", LAMP, 4, [
+        (LAMP, "pub struct Lamp;", "pub fn glow() {}\n\npub struct Lamp;"),
+        ("checks/lamp.sh", None, "#!/bin/sh\n# glow\n"),
+    ]),
+    ("left", MAKE, 1, [(MAKE, None, "WATTS = 3\n"), ("docs/LAMPS.md", "red", "Makefile")]),
+    ("left", MAKE, 1, [(MAKE, None, "flickers:\n"), ("docs/LAMPS.md", "red", "Makefile")]),
+    ("left", "tools/lamp.sh", 2, [("tools/lamp.sh", None, "#!/bin/sh\nflickers() {\n}\n")]),
+    ("left", "docs/lost.txt", 1, [("docs/lost.txt", None, "It burns.\n")]),
+    ("left", "tools/lost.sh", 1, [("tools/lost.sh", None, "#!/bin/sh\n")]),
+    ("left", "checks/packages.txt", 2, [
+        ("checks/packages.txt", None, "lamp: lamps\nbulb: bulbs\n"),
+        ("docs/LAMPS.md", "red", "packages.txt"),
+    ]),
     ("place", "crates/low/proofs/LampLaws.antt", 1, [
         ("crates/low/proofs/LampLaws.antt", None, ""),
     ]),

@@ -68,10 +68,11 @@ def line_of(text, place):
 
 
 class Repository:
-    """All files that the check reads: a text for each path."""
+    """All files that the check reads: a text for each path. `all` has those of every other kind
+    too."""
 
-    def __init__(self, texts):
-        self.texts = texts
+    def __init__(self, texts, more=()):
+        self.texts, self.all = texts, {**texts, **dict(more)}
         self.below = {}
         for line in texts.get("crates.txt", "").splitlines():
             before, colon, after = line.partition(":")
@@ -84,8 +85,11 @@ class Repository:
 
     @classmethod
     def at(cls, top):
-        files = [file for file in files_of(top) if file.suffix in READ or is_script(file)]
-        return cls({str(it.relative_to(top)): it.read_text(errors="replace") for it in files})
+        texts = {True: {}, False: {}}
+        for file in files_of(top):
+            is_read = file.suffix in READ or is_script(file)
+            texts[is_read][str(file.relative_to(top))] = file.read_text(errors="replace")
+        return cls(texts[True], texts[False])
 
     def code(self, *suffixes):
         """The paths and texts of code, definitions and proofs."""

@@ -98,7 +98,7 @@ def told(out):
 
 def steps_of(script, row):
     """The steps for a row. Raises `ValueError` with the mistakes in it."""
-    wrong = []
+    wrong = [*script.wrong]
     steps = script.steps(row, "here", wrong)
     if wrong:
         raise ValueError("\n".join(wrong))

@@ -271,3 +271,20 @@ def test_a_word_that_does_not_fit_is_named(tmp_path, words, line):
     assert (status, out) == (2, "")
     assert error.splitlines()[-1] == f"galliumtoad.batch: error: {line}"
     assert (tmp_path / "rows.csv").read_text().startswith("name,code\n")
+
+
+def test_no_mistake_hides_another(tmp_path):
+    """Of the script, of its columns, of the form of the table, and of its cells."""
+    room = room_of(tmp_path, "select A0\ntake 50\nput 5F {age}\nput 50 4\nput 9F36 {code}\n",
+                   "name,code\nA,1\nB\nC,2\nD,3\nD,3\n")  # fmt: skip
+    where = "rows.csv line"
+    assert room.run("--check", "--new")[2].splitlines() == [f"galliumtoad.batch: {it}" for it in [
+        f"{where} 3: 1 cell, but 2 columns",
+        "script:1: `select`: identifier: 1 byte, but an identifier has 5 to 16",
+        "script:2: `take` is no operation: it is one of select, send, get, put",
+        "script:3: `put`: tag: not a tag that a command can name",
+        "script:3: no column 'age': the table has 'name', 'code'",
+        "script:4: `put`: value: 1 digit, an odd number",
+        *(f"{where} {at}, column 'code': 1 digit, an odd number" for at in (2, 4, 5, 6)),
+        f"{where} 6: the same row as {where} 5",
+    ]]  # fmt: skip

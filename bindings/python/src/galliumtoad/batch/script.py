@@ -115,22 +115,37 @@ _KINDS |= {"get": (Get, tag), "put": (Put, tag, value)}
 
 
 class Script:
-    """The operations of a file, one a line."""
+    """The operations of a file, one a line, and the mistakes in them."""
 
     def __init__(self, path: str, text: str, columns: list[str]) -> None:
-        self.path, self.lines, wrong = path, dict[int, list[str]](), list[str]()
+        self.lines, self.wrong, self._columns = dict[int, list[str]](), list[str](), columns
         self._fixed = functools.cache(functools.partial(meaning, row={}))  # reads a file once
         for number, line in enumerate(text.replace("\r\n", "\n").split("\n"), 1):
             words = [it for it in line.split(" ") if it]
-            if words and line[0] != "#":
-                self.lines[number] = words
-                if fault := _fault_of_line(words, columns):
-                    wrong.append(f"{path}:{number}: {fault}")
-        if wrong or not self.lines:
-            raise ValueError("\n".join(wrong or [f"{path} has no operation"]))
+            faults = self._faults(number, words) if words and line[0] != "#" else ()
+            self.wrong += [f"{path}:{number}: {it}" for it in faults]
+        self.wrong += [f"{path} has no operation"] * (not self.lines and not self.wrong)
+
+    def _faults(self, number: int, words: list[str]) -> Iterator[str]:
+        """Yields the mistakes of a line, and keeps its words if there are as many as it takes."""
+        if (first := words[0]) not in _KINDS:
+            yield f"`{first}` is no operation: it is one of {', '.join(_KINDS)}"
+        elif len(words) != len(_KINDS[first]):
+            yield f"`{first}` has {counted(len(words) - 1, 'word')}, not {len(_KINDS[first]) - 1}"
+        else:
+            self.lines[number] = words
+            for reads, word in zip(_KINDS[first][1:], words[1:]):
+                try:
+                    _COLUMN.search(word) or self._fixed(reads, word)
+                except ValueError as error:
+                    yield f"`{first}`: {reads.__name__}: {error}"
+                listed = ", ".join(map(repr, filter(None, self._columns))) or "no columns"
+                for it in [it for it in _COLUMN.findall(word) if self._columns.count(it) != 1]:
+                    what = f"{n} columns" if (n := self._columns.count(it)) else "no column"
+                    yield f"{what} '{it}': the table has {listed}"
 
     def steps(self, row: Row, where: str, wrong: list[str]) -> list[Step]:
-        """Returns the steps for a row, whose place is `where`. Adds each mistake to `wrong`."""
+        """Returns the steps for a row, whose place is `where`. Adds its mistakes to `wrong`."""
         steps = []
         for line, words in self.lines.items():
             made, (kind, *readers) = [], _KINDS[words[0]]
@@ -138,29 +153,15 @@ class Script:
                 columns = _COLUMN.findall(word)
                 try:
                     made.append(meaning(reads, word, row) if columns else self._fixed(reads, word))
-                except ValueError as error:
-                    in_script = f"{self.path}:{line}: `{words[0]}`: {reads.__name__}: {error}"
-                    named = ", ".join(map(repr, columns))
-                    in_row = f"{where}, column{'s' * (len(columns) > 1)} {named}: {error}"
-                    wrong.append(in_row if columns else in_script)
+                except (KeyError, ValueError) as error:
+                    named = f"column{'s' * (len(columns) > 1)} {', '.join(map(repr, columns))}"
+                    if columns and not isinstance(error, KeyError):  # the others are the script's
+                        wrong.append(f"{where}, {named}: {error}")
             if len(made) == len(readers):
                 shown = " ".join(words[:2] if words[0] in ("get", "put") else words[:1])
                 hides = words[0] != "select" and bool(_COLUMN.search(words[1]))
                 steps.append(Step(line, shown, hides, kind(*made)))
         return steps
-
-
-def _fault_of_line(words: list[str], columns: list[str]) -> Optional[str]:
-    if (first := words[0]) not in _KINDS:
-        return f"`{first}` is no operation: it is one of {', '.join(_KINDS)}"
-    if len(words) != len(_KINDS[first]):
-        return f"`{first}` has {counted(len(words) - 1, 'word')}, not {len(_KINDS[first]) - 1}"
-    for column in _COLUMN.findall(" ".join(words)):
-        if (count := columns.count(column)) != 1:
-            listed = ", ".join(map(repr, filter(None, columns))) or "no columns"
-            what = f"{count} columns" if count else "no column"
-            return f"{what} '{column}': the table has {listed}"
-    return None
 
 
 def check_of(steps: list[Step], key: str) -> str:
@@ -170,8 +171,8 @@ def check_of(steps: list[Step], key: str) -> str:
     return blake2b(repr(said).encode(), key=bytes.fromhex(key), digest_size=8).hexdigest()
 
 
-def rows_of(path: str) -> tuple[list[str], dict[str, Row]]:
-    """Returns the columns of a table, which its first line names, and each row by its place."""
+def rows_of(path: str) -> tuple[list[str], dict[str, Row], list[str]]:
+    """Returns a table's columns, which its first line names, its rows by place, its mistakes."""
     text, columns, rows, wrong = read(path), list[str](), dict[str, Row](), list[str]()
     between = max(",;\t", key=text.split("\n", 1)[0].count)
     source = csv.reader(io.StringIO(text, ""), delimiter=between, strict=True)
@@ -186,9 +187,7 @@ def rows_of(path: str) -> tuple[list[str], dict[str, Row]]:
                 rows[f"{path} line {line}"] = dict(zip(columns, cells))
     except csv.Error as error:
         wrong.append(f"{path} line {source.line_num}: {error}")
-    if wrong or not rows:
-        raise ValueError("\n".join(wrong or [f"{path} has no row"]))
-    return columns, rows
+    return columns, rows, wrong or [f"{path} has no row"] * (not rows)
 
 
 def doubtful(rows: dict[str, Row], script: Script) -> Iterator[str]:
@@ -197,7 +196,7 @@ def doubtful(rows: dict[str, Row], script: Script) -> Iterator[str]:
     texts = sorted({found[1] for it in words if (found := _COLUMN.fullmatch(it, 1))})
     seen, ids = dict[tuple[str, ...], str](), dict[tuple[str, str], str]()
     for where, row in rows.items():
-        yield from (f"{where}, column {it!r}: empty" for it in texts if row[it] == "")
+        yield from (f"{where}, column {it!r}: empty" for it in texts if row.get(it) == "")
         if (first := seen.setdefault(tuple(row.values()), where)) != where:
             yield f"{where}: the same row as {first}"
             continue
@@ -208,8 +207,9 @@ def doubtful(rows: dict[str, Row], script: Script) -> Iterator[str]:
 
 def steps_of(given: argparse.Namespace) -> Rows:
     """Returns the steps for each row. Each file is read once: it may be a pipe, or change."""
-    columns, rows = rows_of(given.rows)
-    script, wrong = Script(given.script, read(given.script), columns), list[str]()
+    columns, rows, wrong = rows_of(given.rows)
+    script = Script(given.script, read(given.script), columns)
+    wrong += script.wrong if columns else []
     steps = [script.steps(row, where, wrong) for where, row in rows.items()]
     if not given.allow_duplicates:
         wrong += doubtful(rows, script)

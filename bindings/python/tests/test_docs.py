@@ -94,7 +94,7 @@ def test_the_package_stays_small():
 @pytest.mark.parametrize(("names", "most"), [(SIMULATION, 1350), (["batch/*.py"], 1100)])
 def test_programs_stay_small(names, most):
     """Each function has fewer than 40 lines. Without docstrings and comments the simulation has
-    900."""
+    920."""
     files = [it for name in names for it in TOP.glob(f"src/galliumtoad/{name}")]
     assert 800 < sum(len(it.read_text().splitlines()) for it in files) <= most
     for file in files:

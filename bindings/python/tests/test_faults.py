@@ -512,7 +512,7 @@ def test_forget_sends_no_procedure_byte_if_no_data_follow():
     ("command 1, procedure 33", "336985"),
     ("command 1, forget; command 1, procedure 33", "339000")])
 def test_a_procedure_byte_comes_before_a_status_alone(text, expected):
-    """The first byte of which is none."""
+    """It does not replace the first byte of that."""
     it, _ = simulator(text, 0)
     assert said(it, bytes.fromhex("00CA5F2006")) == [bytes.fromhex(expected)]
 

@@ -139,8 +139,8 @@ def test_a_request_for_time_is_sent_again(works, came):
 
 @pytest.mark.parametrize("pcb", [0xC0, 0xC2])
 def test_a_terminal_that_drops_its_command(works, pcb):
-    """S(RESYNCH request) and S(ABORT request) are answered when the application has ended, in place
-    of the command. The numbers of the blocks are as before it."""
+    """S(RESYNCH request) and S(ABORT request) get their response when the application has ended, in
+    place of the command. The numbers of the blocks are as before it."""
     card = works("--atr", T1).open(T1)
     assert card.talk(block(0, 0, UPDATE), 2) == bytes([0, MORE])
     card.read(3)

@@ -317,7 +317,7 @@ def is_as_after_a_reset(card):
 
 
 FAULTS = [(fault, way) for fault in ("header", "did", "settled") for way in WAYS]
-# what came whole asks for no more time
+# a whole TPDU or command asks for no more time
 FAULTS += [("time", way) for way in WAYS if way not in ("TPDUs", "commands")]
 
 

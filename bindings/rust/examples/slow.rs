@@ -27,9 +27,7 @@ impl Application for Slow {
 
     fn more_time(&mut self, command: Command<'_>) -> u8 {
         let work = self.work(command.header);
-        if !work.is_finished() {
-            sleep(Duration::from_millis(100));
-        }
+        sleep(Duration::from_millis(100));
         let multiple = u8::from(!work.is_finished());
         self.0 = Some((command.header, work));
         multiple

@@ -270,7 +270,6 @@ const char *answer_go_on(struct answer *answer, int protocol, bool asks_pps,
     answer->line->is_of_blocks = protocol == 1;
     answer->line->answer = answer->bytes;
     answer->line->answer_count = answer->n;
-    line_forget(answer->line);
     *waiting_time = answer_waiting_time(answer) + answer->line->slack;
     return fault;
 }

@@ -356,7 +356,8 @@ def waiting():
         ("silent after a NULL", quick + SHORT_WORDS + "< 60 ", 0.2),
         ("silent after a header, with Fi reserved", "< 3B1071 " + SHORT_WORDS, 1.0),
     ):
-        yield Case(title, dialogue, SHORT, fault=fault, status=1, waits=waits, late=0.15 + waits / 2)
+        yield Case(title, dialogue, SHORT, fault=fault, status=1, waits=waits,
+                   late=0.15 + waits / 2)
     yield Case("silent within data", quick + "> 00CA5F2003 < CA5F20", ["send", "00CA5F2003"],
                fault=fault, status=1, waits=0.2)
     yield Case("silent after a header, at 4,800 baud", quick + SHORT_WORDS, SHORT, fault=fault,

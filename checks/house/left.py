@@ -1,7 +1,9 @@
-"""Names that nothing uses, by names alone: a name that is declared in code and occurs in no other
-line; in a product, one that only tests name besides; a file that no other file names; an option of
-a program in Python that it does not read; a row of packages.txt that no check names. A name that
-stands elsewhere for something else hides a finding."""
+"""What nothing uses, by names alone. Equal names hide a finding. It finds
+
+- a name that code declares and that occurs nowhere else, or in a product only in tests besides
+- a file that no other file names
+- an option of a program in Python that none of them reads
+- a row of packages.txt that no check names."""
 
 import re
 from collections import Counter, defaultdict
@@ -82,7 +84,8 @@ def of_files(repository):
     for path, text in repository.all.items():
         name = PurePath(path)
         group = beside[str(name.with_suffix(""))]
-        called = {PurePath(it).name for it in group} | ({name.stem} if kind_of(path, text) else set())
+        called = {PurePath(it).name for it in group}
+        called |= {name.stem} if kind_of(path, text) else set()
         if not FILES_FOUND.match(path) and not any(users[it] - group for it in called):
             yield Finding("left", path, 1, name.name, f"no other file names {name.name}")
 

@@ -31,7 +31,8 @@ pub struct Conversation<C> {
 ///
 /// # Errors
 /// - `AllocError`: memory ran out before the first block, or between two commands. Those before
-///   have been carried out, and have their answers; both ends, the card and the answers are dropped.
+///   have been carried out, and have their answers; both ends, the card and the answers are
+///   dropped.
 pub fn converse<C: Applet + Drop, L: Line>(
     alloc: Global,
     applet: C,

@@ -1310,6 +1310,9 @@ GT_FUNCTION void gt_terminal_free(gt_terminal *t) {
  * responses of at most `limit` bytes, status included. GT_T1_TRIES, GT_T1_EXTENSIONS and
  * GT_ANSWER_LIMIT suit short commands.
  *
+ * It takes the memory for a command of GT_APDU_LIMIT bytes and a response of `limit` bytes at once.
+ * No block takes memory later.
+ *
  * - GT_OK.
  * - GT_STATE: the handle holds an end, which stays as it was.
  * - GT_ARGUMENT: `edc` is not GT_LRC, or `ifsc` is 0 or 255. The handle still holds nothing.
@@ -1326,7 +1329,7 @@ GT_MUST_CHECK int32_t gt_t1_new(gt_t1 *t, uint8_t edc, uint8_t ifsc, uint8_t tri
  *
  * - GT_OK.
  * - GT_STATE: a command is in progress, or the end gave up. Nothing has changed.
- * - GT_MEMORY: nothing has changed. */
+ * - GT_MEMORY: only for a command of more than GT_APDU_LIMIT bytes. Nothing has changed. */
 GT_MUST_CHECK int32_t gt_t1_begin(gt_t1 *t, const uint8_t *apdu, size_t n) {
     if (!t || (!apdu && n)) return GT_NULL;
     return galliumtoad_t1_begin(t, gt_bytes_(apdu), n);
@@ -1340,7 +1343,6 @@ GT_MUST_CHECK int32_t gt_t1_begin(gt_t1 *t, const uint8_t *apdu, size_t n) {
  * - GT_OK.
  * - GT_DONE: no command is in progress. The last one has its response, or none has started.
  * - GT_FAILED: the end gave up: see `gt_t1_fault`.
- * - GT_MEMORY: nothing has changed: call again.
  * - GT_BUFFER: `room` is less than the block; `n` and `waits` are the block's, `bytes` is
  *   unchanged. */
 GT_MUST_CHECK int32_t gt_t1_send_bytes(gt_t1 *t, uint8_t *bytes, size_t room, size_t *n,
@@ -1357,9 +1359,7 @@ GT_MUST_CHECK int32_t gt_t1_send_bytes(gt_t1 *t, uint8_t *bytes, size_t room, si
  * - GT_SENDS: the block is whole. `gt_t1_send_bytes` has the next one, or ends. An invalid block is
  *   a fruitless reception.
  * - GT_STATE: no block is awaited, since no command is in progress or the end gave up. `taken` is
- *   unchanged.
- * - GT_MEMORY: `taken` bytes are kept. Call again with the rest, or none, or call
- *   `gt_t1_missed`. */
+ *   unchanged. */
 GT_MUST_CHECK int32_t gt_t1_receive_bytes(gt_t1 *t, const uint8_t *bytes, size_t n,
                                           size_t *taken) {
     if (!t || (!bytes && n) || !taken) return GT_NULL;
@@ -1646,11 +1646,13 @@ GT_MUST_CHECK int32_t gt_card_apdu(gt_card *c, const uint8_t *apdu, size_t n,
  * calls that send or receive return GT_STATE. Those that show its content work as before.
  *
  * Begins T=1: the end of the line is as after a reset, and has no block to send. What is selected
- * or pending stays, and so do the plans, for T=0 after the next reset.
+ * or pending stays, and so do the plans, for T=0 after the next reset. It takes the memory for a
+ * command and a response at once.
  *
  * - GT_OK.
  * - GT_STATE: the card is not finished yet, a TPDU is in progress, a header or a command waits, or
- *   the card speaks T=1. Nothing changes. */
+ *   the card speaks T=1. Nothing changes.
+ * - GT_MEMORY: nothing changes. */
 GT_MUST_CHECK int32_t gt_card_t1_begin(gt_card *c) {
     if (!c) return GT_NULL;
     return galliumtoad_card_t1_begin(c);
@@ -1665,7 +1667,8 @@ GT_MUST_CHECK int32_t gt_card_t1_begin(gt_card *c) {
  *   returned GT_MEMORY.
  * - GT_COMMAND, GT_HEADER: it waits, at a card of your own alone. See there.
  * - GT_STATE: the card does not speak T=1.
- * - GT_MEMORY: call again.
+ * - GT_MEMORY: it ran out for a command, at a card of your own alone. The command is not carried
+ *   out, and its last block is kept: call again. A block of the terminal drops it.
  * - GT_BUFFER: `room` is less than the block. `n` is its length.
  *
  * `bytes` changes only with GT_OK, `n` with GT_OK and GT_BUFFER. A card of data objects never
@@ -1684,9 +1687,9 @@ GT_MUST_CHECK int32_t gt_card_t1_send_bytes(gt_card *c, uint8_t *bytes, size_t r
  * - GT_SENDS: the block is whole, valid or not. `gt_card_t1_send_bytes` has the answer, or says
  *   what waits at a card of your own.
  * - GT_STATE: the card does not speak T=1. Nothing changes.
- * - GT_MEMORY: the block and the response before it are dropped, no command is carried out, and
- *   there is no answer. `taken` is set. The terminal asks again. A card of your own keeps the
- *   block: gt_card_t1_send_bytes returns this code. */
+ * - GT_MEMORY: it ran out for a command, at a card of data objects alone. The command is not carried
+ *   out, and there is no answer, as if its last block had been lost: the terminal asks. `taken` is
+ *   set. At a card of your own gt_card_t1_send_bytes returns this code. */
 GT_MUST_CHECK int32_t gt_card_t1_receive_bytes(gt_card *c, const uint8_t *bytes, size_t n,
                                                size_t *taken) {
     if (!c || (!bytes && n) || !taken) return GT_NULL;
@@ -1807,8 +1810,9 @@ GT_FUNCTION void gt_card_free(gt_card *c) {
  * GT_HEADER is only for a card without directions. GT_COMMAND may follow it. The same call again is
  * gt_card_tpdu or gt_card_apdu with NULL and 0 in place of the bytes.
  *
- * At T=1 a command waits once gt_card_t1_send_bytes has returned GT_HEADER or GT_COMMAND. Any block
- * of the terminal, even an invalid one, drops it and what was answered for it. While S(WTX request)
+ * At T=1 a command waits once gt_card_t1_send_bytes has returned GT_HEADER or GT_COMMAND. What
+ * gt_card_command gives is all of it: bytes beyond GT_APDU_LIMIT get 6700 alone. Any block of the
+ * terminal, even an invalid one, drops it and what was answered for it. While S(WTX request)
  * is in progress only S(ABORT request) and S(RESYNCH request) drop the command. After the response
  * to S(WTX request) gt_card_t1_send_bytes returns GT_HEADER or GT_COMMAND again. A command that was
  * dropped before the answer may come again in another block: you get it once more, and

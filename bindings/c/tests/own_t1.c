@@ -16,7 +16,7 @@ static size_t block_n;
 static int due, next;       /* N(S) of the terminal's next I-block, and of the card's */
 static size_t ifsd;
 /* how often each happened, which the test shows at its end */
-static int dropped, extended, again, abandoned;
+static int dropped, extended, again, abandoned, too_long;
 
 /* The card gets a block with this PCB and field. */
 static void to_card(uint8_t pcb, const uint8_t *field, size_t n) {
@@ -76,7 +76,7 @@ static void none_waits(void) {
 static void begin(void) {
     due = next = 0;
     ifsd = 32;
-    CHECK(gt_card_t1_begin(&card), GT_OK);
+    GETS(gt_card_t1_begin(&card), GT_OK);
     CHECK(gt_card_t1_begin(&card), GT_STATE);
     CHECK(gt_card_t1_send_bytes(&card, block, sizeof block, &block_n), GT_DONE);
     none_waits();
@@ -225,22 +225,45 @@ static int by_fields(const uint8_t *bytes, size_t n) {
     return how == ANSWERED;
 }
 
-/* The card's response comes in these fields. A block may be asked for again. */
+/* The card's response comes in these fields. A block may be asked for again: then its field is cut
+ * to an IFSD that is shorter now, and grows with none. */
 static void comes(void) {
-    size_t at = 0, size;
+    size_t at = 0, size, most = sizeof out;
     while (failed == 0) {
         size = out_n - at < ifsd ? out_n - at : ifsd;
+        if (size > most) size = most;
         sends(next << 6 | (at + size < out_n ? MORE : 0), out + at, size);
         if (any(5) == 0) {
             again++;
+            most = size;
+            if (any(2) == 0) ifs();
             to_card((uint8_t)(READY | next << 4 | OTHER), NULL, 0);
             continue;
         }
+        most = sizeof out;
         next ^= 1;
         at += size;
         if (at == out_n) return;
         to_card((uint8_t)(READY | next << 4), NULL, 0);
     }
+}
+
+/* A chain is too long for a command, although its last field is one. The card answers alone. */
+static void long_chain(void) {
+    static const uint8_t FIELD[254], LAST[] = { 0x80, 0x2A, 0, 0, 0 }, WRONG_LENGTH[] = { 0x67, 0 };
+    size_t fields;
+    for (fields = 2 + any(3); fields > 0 && failed == 0; fields--) {
+        to_card((uint8_t)(due << 6 | MORE), FIELD, sizeof FIELD - any(120));
+        due ^= 1;
+        sends(READY | due << 4, NULL, 0);
+    }
+    to_card((uint8_t)(due << 6), LAST, sizeof LAST);
+    due ^= 1;
+    none_waits();
+    sends(next << 6, WRONG_LENGTH, sizeof WRONG_LENGTH);
+    next ^= 1;
+    none_waits();
+    too_long++;
 }
 
 static int is_invalid(const sent *s) { return s->header[1] >> 4 == 6 || s->header[1] >> 4 == 9; }
@@ -252,6 +275,7 @@ static void one(void) {
     const int to = goes_to_card(s.header[1]), before = asked;
     const int reaches = is_own(s.header[1]) && !command_is_wrong(&s);
     if (any(4) == 0) ifs();
+    if (any(6) == 0) long_chain();
     now = &s;
     now_n = to ? s.n : 0;
     now_le = to ? 0 : s.le > 0 ? s.le : 256;
@@ -271,6 +295,6 @@ int main(void) {
     sessions(begin, one, reset);
     CHECK(asked > SESSIONS / 2 && fetched > SESSIONS / 100, 1);
     CHECK(dropped > SESSIONS / 100 && abandoned > SESSIONS / 100, 1);
-    CHECK(extended > SESSIONS / 100 && again > SESSIONS / 100, 1);
+    CHECK(extended > SESSIONS / 100 && again > SESSIONS / 100 && too_long > SESSIONS / 100, 1);
     return check_result("own_t1");
 }

@@ -7,7 +7,7 @@ use Rattle.t1_core.specs.declared.applet.Applet.{Ghosts}
 use Rattle.t1_core.specs.declared.card.Reply.{Reply}
 use Rattle.t1_core.specs.declared.pcb.BlockReason.{BlockReason}
 use Rattle.t1_core.specs.BlockBytes.{arrival_of, bytes_of, is_whole}
-use Rattle.t1_core.specs.CardSide.{card_after, card_damaged, card_hears, forgets, replies, request_of}
+use Rattle.t1_core.specs.CardSide.{card_after, card_damaged, card_hears, replies, request_of}
 use Rattle.t1_core.specs.Doing.{Goes, IsDue, Keeps, Steps}
 use Rattle.object_card.specs.State.{CardState}
 use Rattle.object_card.specs.CardMeaning.{Does}
@@ -28,9 +28,10 @@ applet = record {
   State = CardState;
   standing = λ end. end.card.state;
   Does = DoesAt Does;
+  Refuses = λ s bytes. (c : Command) × IsCommand c × (bytes ≡ command_bytes c);
 }
 
--- A card at rest begins to speak T=1: it has sent no block.
+-- A card at rest begins to speak T=1: it has sent no block, and its end has all its memory.
 abbrev pub begun : EndOf CardView → Cursor → CardT1Side
 begun end plans = record {
   end = record { card = end; at = card_after []; over = false };
@@ -52,6 +53,7 @@ may_begin side = false
 
 abbrev pub BeginsT1 : CardSide → ℤ → CardSide → Type 0
 BeginsT1 side code new = ((may_begin side ≡ false) × (code ≡ gt_state) × (new ≡ side))
+    ⊎ ((may_begin side ≡ true) × (code ≡ gt_memory) × (new ≡ side))
     ⊎ ((may_begin side ≡ true) × (code ≡ gt_ok) × (new ≡ at_t1 side))
 
 -- a card at T=1 speaks T=0 again
@@ -70,22 +72,21 @@ OnLine Calls OwnCalls Untold (OwnAtT1 at) code new =
     (next : OwnT1Side) × (new ≡ OwnAtT1 next) × OwnCalls at code next
 OnLine Calls OwnCalls Untold side code new = (code ≡ gt_state) × (new ≡ side) × Untold
 
--- The block of the reply is written. Before the terminal's first block, and after memory ran out,
--- no block is.
+-- The block of the reply is written. Before the terminal's first block, and after a block at which
+-- memory ran out, there is none.
 abbrev pub SendsOf : Option Reply → List ℕ → ℕ → List ℕ → ℕ → CardT1Side → ℤ → Type 0
 SendsOf None room n room' n' at code = (code ≡ gt_done) × (room' ≡ room) × (n' ≡ n)
 SendsOf (Some reply) room n room' n' at code =
-    ((code ≡ gt_memory) × (room' ≡ room) × (n' ≡ n))
-    ⊎ (IsCopied (bytes_of (replies reply at.end.at)) room code room'
-    × (n' ≡ length (bytes_of (replies reply at.end.at))))
+    IsCopied (bytes_of (replies reply at.end.at)) room code room'
+    × (n' ≡ length (bytes_of (replies reply at.end.at)))
 
 abbrev pub SendsReply : List ℕ → ℕ → List ℕ → ℕ → CardT1Side → ℤ → CardT1Side → Type 0
 SendsReply room n room' n' old code new =
     SendsOf old.reply room n room' n' old code × (new ≡ old)
 
 -- Bytes of the terminal are taken up to the end of its block. With a whole block the end makes its
--- step, and replies. If memory runs out at the next field of a command, no command is carried out,
--- and the block is dropped.
+-- step, and replies. If memory runs out for a command, it is not carried out, and its last block is
+-- as a lost one.
 abbrev pub HearsBytes : List ℕ → ℕ → CardT1Side → ℤ → CardT1Side → Type 0
 HearsBytes bytes n' old code new = (block : List ℕ) × (block ≡ old.block ++ take n' bytes)
     × ((k : ℕ) → k < n' → is_whole (old.block ++ take k bytes) ≡ false)
@@ -97,7 +98,7 @@ HearsBytes bytes n' old code new = (block : List ℕ) × (block ≡ old.block ++
     × Steps applet (λ m c. card_hears m (arrival_of block) c) old.end reply new.end)
     ⊎ ((is_whole block ≡ true) × IsDue (arrival_of block) old.end
     × (request_of old.end.at.left ≡ None) × (code ≡ gt_memory) × (new.block ≡ [])
-    × (new.reply ≡ None) × Keeps applet forgets old.end new.end))
+    × (new.reply ≡ None) × Keeps applet (λ c. c) old.end new.end))
 
 -- no valid block arrived, for this reason
 abbrev pub Misses : BlockReason → CardT1Side → ℤ → CardT1Side → Type 0

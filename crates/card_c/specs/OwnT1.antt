@@ -1,5 +1,6 @@
 -- What the calls on a card of an own application at T=1 do to it. A refusal changes nothing.
 use Rattle.std.specs.Prelude.{◌≡◌, ◌≢◌, ◌⊎◌, ⊤, ℕ, ℤ, ◌<◌, zero, suc, ◌&&◌, Bool, true, false, List, [], ◌++◌, take, length, Option, Some, None, MatchOption}
+use Rattle.apdu_core.specs.CommandBytes.{Command, IsCommand, command_bytes}
 use Rattle.t0_core.specs.CardSide.{EndOf}
 use Rattle.t0_core.specs.CardTpdu.{rests}
 use Rattle.t1_core.specs.declared.applet.Applet.{Ghosts}
@@ -35,6 +36,7 @@ own_applet = record {
   State = CardState GivenState;
   standing = λ applet. standing_in at_rest applet.end.card;
   Does = DoesBytes RespondsAtT1;
+  Refuses = λ s bytes. (c : Command) × IsCommand c × (bytes ≡ command_bytes c);
 }
 
 -- nothing waits as a whole
@@ -83,13 +85,13 @@ TakesAgain old new = ((awaits old.end ≡ false) × (new ≡ old))
     × Takes own_applet old.end.kept old.end new.reply new.end
     × (new.reply ≡ None → IsDue (arrival_of old.end.kept) old.end.end))
 
--- The code for what waits: a header, or the command. Otherwise memory ran out, for the copy of a
--- command or when it was carried out.
+-- The code for what waits: a header, or the whole command. Otherwise memory ran out, for the copy
+-- of a command or when it was carried out.
 abbrev pub SendsWaiting : OwnT1Side → ℤ → OwnT1Side → Type 0
 SendsWaiting old code new = ((awaits old.end ≡ false) × (code ≡ gt_done) × (new ≡ old))
     ⊎ ((awaits old.end ≡ true) × (new ≡ record old { asked = new.asked })
-    × (((code ≡ gt_memory) × (command_in old.end ≢ None) × (new.asked.items ≡ []))
-    ⊎ (HasCommand (command_in old.end) new.asked.items
+    × (((code ≡ gt_memory) × (command_in 261 old.end ≢ None) × (new.asked.items ≡ []))
+    ⊎ (HasCommand (command_in 261 old.end) new.asked.items
     × (w : Wanted) × IsWantedAtT1 new w
     × MatchOption (wait_code w) (code ≡ gt_memory) (λ waits. code ≡ waits))))
 
@@ -98,9 +100,8 @@ abbrev pub SendsOwnOf : Option Reply → List ℕ → ℕ → List ℕ → ℕ �
 SendsOwnOf None room n room' n' at code new =
     (room' ≡ room) × (n' ≡ n) × SendsWaiting at code new
 SendsOwnOf (Some reply) room n room' n' at code new = (new ≡ at)
-    × (((code ≡ gt_memory) × (room' ≡ room) × (n' ≡ n))
-    ⊎ (IsCopied (bytes_of (replies reply at.end.end.at)) room code room'
-    × (n' ≡ length (bytes_of (replies reply at.end.end.at)))))
+    × IsCopied (bytes_of (replies reply at.end.end.at)) room code room'
+    × (n' ≡ length (bytes_of (replies reply at.end.end.at)))
 
 abbrev pub SendsOwn : List ℕ → ℕ → List ℕ → ℕ → OwnT1Side → ℤ → OwnT1Side → Type 0
 SendsOwn room n room' n' old code new = (at : OwnT1Side) × TakesAgain old at

@@ -1,5 +1,5 @@
 -- What the calls on the handle of a terminal's end at T=1 do to it. A refusal changes nothing.
-use Rattle.std.specs.Prelude.{◌≡◌, ◌≢◌, ◌⊎◌, ℕ, ℤ, ◌<◌, ◌==◌, Bool, true, false, List, [], ◌++◌, take, length, Option, Some, None, if◌then◌else◌}
+use Rattle.std.specs.Prelude.{◌≡◌, ◌⊎◌, ℕ, ℤ, ◌<◌, ◌==◌, Bool, true, false, List, [], ◌++◌, take, length, Option, Some, None, if◌then◌else◌}
 use Rattle.t1_core.specs.declared.block.Control.TheVariants.{Wtx}
 use Rattle.t1_core.specs.declared.settings.Edc.TheVariants.{Lrc}
 use Rattle.t1_core.specs.declared.settings.Settings.{Settings}
@@ -35,7 +35,7 @@ HasBegun edc ifsc tries extensions limit None code new =
 abbrev pub Begins : List ℕ → T1Side → ℤ → T1Side → Type 0
 Begins apdu old code new =
     ((is_ready old.end.phase ≡ false) × (code ≡ gt_state) × (new ≡ old))
-    ⊎ ((is_ready old.end.phase ≡ true) × (apdu ≢ []) × (code ≡ gt_memory) × (new ≡ old))
+    ⊎ ((is_ready old.end.phase ≡ true) × (261 < length apdu) × (code ≡ gt_memory) × (new ≡ old))
     ⊎ ((is_ready old.end.phase ≡ true) × (code ≡ gt_ok)
     × (new ≡ record old { end = begins apdu old.end }))
 
@@ -45,23 +45,21 @@ abbrev pub waits_for : Block → ℕ
 waits_for (Response (Wtx multiple)) = if multiple == 0 then 1 else multiple
 waits_for _ = 1
 
--- The next block is written. If no command is in progress, if the end gave up, or if memory runs
--- out, nothing is written.
+-- The next block is written. If no command is in progress, or if the end gave up, nothing is
+-- written.
 abbrev pub SendsOf : Option Block → Bool → List ℕ → ℕ → ℕ → ℤ → List ℕ → ℕ → ℕ → Type 0
 SendsOf None ready room n waits code room' n' waits' =
     (code ≡ (if ready then gt_done else gt_failed)) × (room' ≡ room) × (n' ≡ n) × (waits' ≡ waits)
 SendsOf (Some block) ready room n waits code room' n' waits' =
-    ((code ≡ gt_memory) × (room' ≡ room) × (n' ≡ n) × (waits' ≡ waits))
-    ⊎ (IsCopied (bytes_of block) room code room' × (n' ≡ length (bytes_of block))
-    × (waits' ≡ waits_for block))
+    IsCopied (bytes_of block) room code room' × (n' ≡ length (bytes_of block))
+    × (waits' ≡ waits_for block)
 
 abbrev pub SendsBlock : List ℕ → ℕ → ℕ → List ℕ → ℕ → ℕ → T1Side → ℤ → T1Side → Type 0
 SendsBlock room n waits room' n' waits' old code new =
     SendsOf (sends old.end) (is_ready old.end.phase) room n waits code room' n' waits'
     × (new ≡ old)
 
--- Bytes of the card are taken up to the end of its block, and then the block. If memory runs out
--- for a new field of the response, the bytes stay, and the next call takes the block.
+-- Bytes of the card are taken up to the end of its block, and then the block.
 abbrev pub ReceivesBytes : List ℕ → ℕ → ℕ → T1Side → ℤ → T1Side → Type 0
 ReceivesBytes bytes n n' old code new =
     ((has_stopped old.end.phase ≡ true) × (code ≡ gt_state) × (n' ≡ n) × (new ≡ old))
@@ -70,8 +68,6 @@ ReceivesBytes bytes n n' old code new =
     × ((k : ℕ) → k < n' → is_whole (old.block ++ take k bytes) ≡ false)
     × (((is_whole block ≡ false) × (n' ≡ length bytes) × (code ≡ gt_ok)
     × (new ≡ record old { block = block }))
-    ⊎ ((is_whole block ≡ true) × (code ≡ gt_memory)
-    × ((takes old.end (arrival_of block)).due ≢ old.end.due) × (new ≡ record old { block = block }))
     ⊎ ((is_whole block ≡ true) × (code ≡ gt_sends)
     × (new ≡ record { end = takes old.end (arrival_of block); block = [] }))))
 

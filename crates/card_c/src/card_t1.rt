@@ -1,20 +1,21 @@
 //! The exports of a card at T=1.
 ghost use Rattle.std.specs.Prelude.{◌≡◌, ⊤, true, if◌then◌else◌};
 ghost use Rattle.t1_core.specs.declared.pcb.BlockReason.TheVariants as reason;
+ghost use Rattle.t1_core.specs.Doing.{AreRooms};
 ghost use Rattle.card_c.specs.Handles.{held_by, OnHandle, OnHandleOr};
 ghost use Rattle.card_c.specs.CardT1Calls.{BeginsT1, HearsBytes, Misses, OnLine, SendsReply, at_t0, at_t1, may_begin};
 ghost use Rattle.card_c.specs.OwnT1.{HearsOwn, MissesOwn, SendsOwn};
 
 use crate::card_side::{CardSide, CardT1Side};
 use crate::code;
-use crate::copied::copied;
+use crate::copied::block_copied;
 use crate::handle::{Handle, on};
 use crate::held_card::CardHandle;
 use crate::own_t1::{back_at_t0, is_idle, misses_own, own_begun, receive_own, send_own};
 use core::mem::replace_with;
+use command_card::GivenApplet;
 use std::alloc::Global;
-use t1_core::spelling::write;
-use t1_core::{BlockCard, Receiver};
+use t1_core::{BlockCard, Receiver, Rooms, rooms_for};
 use t1_terminal::DataApplet;
 
 /// Lets the card speak T=1, until its next reset. It has no block to send yet.
@@ -32,7 +33,11 @@ fn begin(alloc: Global, side: &mut CardSide) -> i32
     if !may_begin(side) {
         return code::STATE;
     }
-    replace_with(side, alloc, begun);
+    // Both kinds of cards need the same rooms.
+    let Ok(rooms) = rooms_for::<GivenApplet>(alloc) else {
+        return code::MEMORY;
+    };
+    replace_with(side, (alloc, rooms), begun);
     code::OK
 }
 
@@ -48,18 +53,20 @@ fn may_begin(side: &CardSide) -> bool
     }
 }
 
-fn begun(side: CardSide, alloc: Global) -> (CardSide, ())
-    requires { may_begin side ≡ true }
+fn begun(side: CardSide, with: (Global, Rooms)) -> (CardSide, ())
+    requires side { may_begin side ≡ true }
+    requires rooms { AreRooms 261 with.1 }
     ensures { result.0 ≡ at_t1 side }
 {
+    let (alloc, rooms) = with;
     let begun = match side {
         CardSide::Standing(end, plans) => CardSide::AtT1(CardT1Side {
-            end: BlockCard::new(alloc, DataApplet::new(alloc, end)),
+            end: BlockCard::new(rooms, DataApplet::new(alloc, end)),
             block: Receiver::new(),
             reply: None,
             plans,
         }),
-        CardSide::Own(own) => CardSide::OwnAtT1(own_begun(alloc, own)),
+        CardSide::Own(own) => CardSide::OwnAtT1(own_begun(rooms, own)),
         other => other,
     };
     (begun, ())
@@ -106,32 +113,29 @@ pub extern "C" fn galliumtoad_card_t1_send_bytes(
         ((bytes.new ≡ bytes.old) × (count.new ≡ count.old)))
         (held_by card.old) result (held_by card.new) }
 {
-    on!(alloc, card, side => send(alloc, &mut side, bytes, count))
+    on!(alloc, card, side => send(&mut side, bytes, count))
 }
 
-fn send(alloc: Global, side: &mut CardSide, bytes: &mut [u8], count: &mut usize) -> i32
+fn send(side: &mut CardSide, bytes: &mut [u8], count: &mut usize) -> i32
     ensures { OnLine (SendsReply bytes.old count.old bytes.new count.new)
         (SendsOwn bytes.old count.old bytes.new count.new)
         ((bytes.new ≡ bytes.old) × (count.new ≡ count.old)) side.old result side.new }
 {
     match side {
-        CardSide::AtT1(at) => send_data(alloc, at, bytes, count),
-        CardSide::OwnAtT1(at) => send_own(alloc, at, bytes, count),
+        CardSide::AtT1(at) => send_data(at, bytes, count),
+        CardSide::OwnAtT1(at) => send_own(at, bytes, count),
         CardSide::Building(_) | CardSide::Standing(..) => code::STATE,
         CardSide::Joined(_) | CardSide::Own(_) => code::STATE,
     }
 }
 
-fn send_data(alloc: Global, at: &CardT1Side, bytes: &mut [u8], count: &mut usize) -> i32
+fn send_data(at: &CardT1Side, bytes: &mut [u8], count: &mut usize) -> i32
     ensures { SendsReply bytes.old count.old bytes.new count.new at.now result at.now }
 {
     let Some(reply) = at.reply else {
         return code::DONE;
     };
-    match write(alloc, at.end.block(reply)) {
-        Ok(from) => copied(&from, bytes, count),
-        Err(_) => code::MEMORY,
-    }
+    block_copied(at.end.block(reply), bytes, count)
 }
 
 /// Takes bytes of the terminal up to the end of its block, and writes their number to `count`.

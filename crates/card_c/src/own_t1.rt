@@ -1,6 +1,7 @@
 //! A card of an own application at T=1.
 ghost use Rattle.std.specs.Prelude.{◌≡◌, ◌≢◌, ⊤, None, [], OnOk, OnErr, if◌then◌else◌};
 ghost use Rattle.t1_core.specs.declared.pcb.BlockReason.TheVariants as reason;
+ghost use Rattle.t1_core.specs.Doing.{AreRooms};
 ghost use Rattle.t1_core.specs.Patience.{command_in};
 ghost use Rattle.card_c.specs.Handles.{held_by, OnHandle};
 ghost use Rattle.card_c.specs.OwnCalls.{Freely, IsWantedAtT1};
@@ -8,18 +9,18 @@ ghost use Rattle.card_c.specs.OwnT1.{AsksTime, AsksTimeOne, DropsGiven, HasComma
 
 use crate::card_side::CardSide;
 use crate::code;
-use crate::copied::copied;
+use crate::copied::block_copied;
 use crate::handle::{Handle, on};
 use crate::held_card::CardHandle;
 use crate::own_side::{OwnSide, OwnT1Side, Whole, forget};
 use crate::own_whole::wanted_in;
 use command_card::{GivenApplet, Wanted, take_back, wanted_next};
 use std::alloc::{AllocError, Global};
-use t1_core::spelling::write;
-use t1_core::{PatientCard, Receiver};
+use t1_core::{PatientCard, Receiver, Rooms};
 
 /// The card as it begins to speak T=1.
-pub(crate) fn own_begun(alloc: Global, own: OwnSide) -> OwnT1Side
+pub(crate) fn own_begun(rooms: Rooms, own: OwnSide) -> OwnT1Side
+    requires { AreRooms 261 rooms }
     ensures { result ≡ own_begun own }
 {
     let OwnSide {
@@ -29,7 +30,7 @@ pub(crate) fn own_begun(alloc: Global, own: OwnSide) -> OwnT1Side
         ..
     } = own;
     OwnT1Side {
-        end: PatientCard::new(alloc, GivenApplet { end }),
+        end: PatientCard::new(rooms, GivenApplet { end }),
         block: Receiver::new(),
         reply: None,
         asked,
@@ -65,22 +66,14 @@ pub(crate) fn back_at_t0(at: OwnT1Side) -> OwnSide
 
 /// Writes the next block and its length, or returns what waits.
 #[inline(never)]
-pub(crate) fn send_own(
-    alloc: Global,
-    at: &mut OwnT1Side,
-    bytes: &mut [u8],
-    count: &mut usize,
-) -> i32
+pub(crate) fn send_own(at: &mut OwnT1Side, bytes: &mut [u8], count: &mut usize) -> i32
     ensures { SendsOwn bytes.old count.old bytes.new count.new at.old result at.new }
 {
     take_again(at);
     let Some(reply) = at.reply else {
         return wait_code(at);
     };
-    match write(alloc, at.end.block(reply)) {
-        Ok(from) => copied(&from, bytes, count),
-        Err(_) => code::MEMORY,
-    }
+    block_copied(at.end.block(reply), bytes, count)
 }
 
 /// Gives the end the block that waits again, if one does.
@@ -119,8 +112,8 @@ pub(crate) fn wanted_at_t1<'a>(at: &'a OwnT1Side) -> Wanted<'a>
 
 /// Copies the command that waits, or nothing.
 fn copy_command(end: &PatientCard<GivenApplet>, asked: &mut Vec<u8>) -> Result<(), AllocError>
-    ensures copied { OnOk result (HasCommand (command_in end.now) asked.new.items) }
-    ensures failed { OnErr result ((asked.new.items ≡ []) × (command_in end.now ≢ None)) }
+    ensures copied { OnOk result (HasCommand (command_in 261 end.now) asked.new.items) }
+    ensures failed { OnErr result ((asked.new.items ≡ []) × (command_in 261 end.now ≢ None)) }
 {
     forget(asked);
     let Some((front, field)) = end.command() else {

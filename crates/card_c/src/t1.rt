@@ -7,12 +7,11 @@ ghost use Rattle.card_c.specs.Handles.{t1_in, OnHandle, OnHandleOr};
 ghost use Rattle.card_c.specs.T1Calls.{HasBegun, IsTaken, HasSettings, Begins, Misses, Resets, TellsResponse, TellsFault, SendsBlock, ReceivesBytes, waits_for};
 
 use crate::code;
-use crate::copied::copied;
+use crate::copied::{block_copied, copied};
 use crate::handle::{Handle, on};
 use crate::held_t1::T1Handle;
 use crate::t1_side::T1Side;
 use std::alloc::Global;
-use t1_core::spelling::write;
 use t1_core::{Block, Control, Edc, Receiver, Settings, TerminalEnd};
 
 /// The number of LRC, an error detection code.
@@ -37,7 +36,9 @@ pub extern "C" fn galliumtoad_t1_new(
     let Some(settings) = settings(edc, ifsc, tries, extensions, limit) else {
         return code::ARGUMENT;
     };
-    let end = TerminalEnd::new(alloc, settings);
+    let Ok(end) = TerminalEnd::new(alloc, settings) else {
+        return code::MEMORY;
+    };
     let block = Receiver::new();
     match Box::new(alloc, T1Side { end, block }) {
         Ok(side) => {
@@ -197,10 +198,10 @@ pub extern "C" fn galliumtoad_t1_send_bytes(
         (SendsBlock bytes.old count.old waits.old bytes.new count.new waits.new)
         (t1_in t1.old) result (t1_in t1.new) }
 {
-    on!(alloc, t1, side => sent(alloc, &side, bytes, count, waits))
+    on!(alloc, t1, side => sent(&side, bytes, count, waits))
 }
 
-fn sent(alloc: Global, side: &T1Side, bytes: &mut [u8], count: &mut usize, waits: &mut u8) -> i32
+fn sent(side: &T1Side, bytes: &mut [u8], count: &mut usize, waits: &mut u8) -> i32
     ensures { SendsBlock bytes.old count.old waits.old bytes.new count.new waits.new
         side.now result side.now }
 {
@@ -211,13 +212,8 @@ fn sent(alloc: Global, side: &T1Side, bytes: &mut [u8], count: &mut usize, waits
             code::FAILED
         };
     };
-    match write(alloc, block) {
-        Ok(from) => {
-            *waits = waits_for(block);
-            copied(&from, bytes, count)
-        }
-        Err(_) => code::MEMORY,
-    }
+    *waits = waits_for(block);
+    block_copied(block, bytes, count)
 }
 
 /// Returns the card's time for its answer to a block, as a multiple of BWT. It is that of an S(WTX
@@ -255,11 +251,7 @@ fn received(side: &mut T1Side, bytes: &[u8], count: &mut usize) -> i32
     if !side.block.is_whole() {
         return code::OK;
     }
-    match side.end.take_bytes(side.block.bytes()) {
-        Ok(()) => {
-            side.block.clear();
-            code::SENDS
-        }
-        Err(_) => code::MEMORY,
-    }
+    side.end.take_bytes(side.block.bytes());
+    side.block.clear();
+    code::SENDS
 }

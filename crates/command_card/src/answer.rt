@@ -15,6 +15,7 @@ use crate::application::{Application, GET_RESPONSE, OWN_RESPONSE_LIMIT};
 use crate::ready::{Ending, Ready, Waiting};
 use apdu_core::{Command, Header, Status, count};
 use t0_core::Verdict;
+use t1_core::wipe;
 
 /// The status word of these two bytes.
 pub(crate) fn word(sw1: u8, sw2: u8) -> Status
@@ -99,14 +100,6 @@ pub(crate) fn carried_out<A: Application>(
         return (word(0x6F, 0x00), false);
     }
     (status, true)
-}
-
-/// Drops the bytes. They are overwritten with zeros, which is tested and not proved.
-pub(crate) fn wipe(bytes: &mut Vec<u8>)
-    ensures { bytes.new.items ≡ [] }
-{
-    bytes.fill(0);
-    bytes.clear();
 }
 
 /// Drops the kept bytes, as `wipe`, if nothing is pending.

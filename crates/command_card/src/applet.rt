@@ -1,30 +1,26 @@
 //! The same application at T=1, and for whole commands.
 ghost use Rattle.std.specs.Prelude.{◌≡◌, ◌+◌, ◌≤◌, [], ◌++◌, length, drop, vec_capacity, Some, unwrap_or};
+ghost use Rattle.t1_core.specs.declared.applet.TheConstants.{RESPONSE_ROOM};
 ghost use Rattle.apdu_core.specs.declared.header.Header.{Header};
 ghost use Rattle.command_card.specs.AtT1.{HandsOut, Responds, DoesAt, shown, status_bytes, may_bring};
 ghost use Rattle.command_card.specs.State.{Nothing_left};
 ghost use Rattle.command_card.specs.View.{WaitsFor, after_reset, left_of, state_of};
 
-use crate::answer::{announcing, carried_out, fetch_left, wipe, wipe_ended, word};
+use crate::answer::{announcing, carried_out, fetch_left, wipe_ended, word};
 use crate::application::{Application, GET_RESPONSE};
 use crate::ready::Waiting;
 use apdu_core::{ApduFault, Command, Status};
 use std::alloc::{AllocError, Global};
 use std::marker::Model;
-use t1_core::{Applet, Requests};
-
-/// The longest response in bytes: 256 of data, and the status.
-pub const RESPONSE_ROOM: usize = 258;
-
-/// The longest command in bytes: CLA INS P1 P2, Lc, 255 bytes of data, and Le.
-pub const COMMAND_LIMIT: usize = 261;
+use t1_core::{Applet, COMMAND_ROOM, RESPONSE_ROOM, Requests, wipe};
 
 /// An application above its end of a line at T=1, or for whole commands. It gets each command as
 /// T=0 shows it, so it answers alike on both lines. At most Le bytes of a response come. `61XX`
 /// announces the rest, which GET RESPONSE fetches. Of a response that is sent nothing is held.
 ///
 /// Bytes that are no short command get `6700`, INS `6X` and `9X` `6D00`, and nothing changes. Data
-/// in the wrong direction get `6700`. The other statuses are those of `CommandCard`.
+/// in the wrong direction get `6700`. The other statuses are those of `CommandCard`. It refuses no
+/// command: if memory runs out, the application's command gets `6581`.
 #[derive(Drop)]
 pub struct AppletOf<A: Application> {
     pub(crate) application: A,
@@ -112,11 +108,22 @@ pub(crate) fn push(content: &[u8], response: &mut Vec<u8>)
 pub(crate) fn write(content: &[u8], status: Status, response: &mut Vec<u8>)
     requires empty { response.old.items ≡ [] }
     requires room { length content.now + 2 ≤ vec_capacity response.old }
-    ensures { response.new.items ≡ content.now ++ status_bytes status }
+    ensures bytes { response.new.items ≡ content.now ++ status_bytes status }
+    ensures room { vec_capacity response.old ≤ vec_capacity response.new }
 {
     push(content, response);
     response.push_reserved(status.sw1());
     response.push_reserved(status.sw2());
+}
+
+/// Replaces a response by a status, for which there is room. The old bytes are overwritten.
+pub(crate) fn refuse(status: Status, response: &mut Vec<u8>)
+    requires { 2 ≤ vec_capacity response.old }
+    ensures bytes { response.new.items ≡ status_bytes status }
+    ensures room { vec_capacity response.old ≤ vec_capacity response.new }
+{
+    wipe(response);
+    write(&[], status, response);
 }
 
 /// Writes at most Le bytes of those from this place on, and their status. Returns what is pending.
@@ -133,6 +140,7 @@ pub(crate) fn hand_out(
         (left_of bytes.now.items result) }
     ensures under { (h : Header) → WaitsFor result h → ⊥ }
     ensures short { length response.new.items ≤ may_bring le + 2 }
+    ensures room { vec_capacity response.old ≤ vec_capacity response.new }
 {
     let first = from.min(bytes.len());
     let left = bytes.len() - first;
@@ -159,6 +167,7 @@ pub(crate) fn respond<A: Application>(
         command.now response.new.items
         (state_of (A.standing application.new) kept.new.items result) }
     ensures under { (h : Header) → WaitsFor result h → ⊥ }
+    ensures room { vec_capacity response.old ≤ vec_capacity response.new }
 {
     let header = command.header();
     let le = command.le();
@@ -186,7 +195,7 @@ impl<A: Application> Applet for AppletOf<A> {
     ghost use Rattle.command_card.specs.State.{CardState};
     ghost use Rattle.command_card.specs.View.{applet_in};
 
-    const LIMIT: usize = COMMAND_LIMIT;
+    const LIMIT: usize = COMMAND_ROOM;
 
     ghost LIMIT = { 261 };
 
@@ -196,15 +205,16 @@ impl<A: Application> Applet for AppletOf<A> {
 
     ghost Does = { DoesAt A.takes A.Does };
 
+    ghost Refuses = { λ s command. ⊥ };
+
     fn carry_out(
         &mut self,
         command: &[u8],
         response: &mut Vec<u8>,
     ) -> Result<Requests, AllocError> {
-        response.clear();
-        response.reserve(RESPONSE_ROOM)?;
         match Command::read(command) {
             Ok(command) => {
+                wipe(response);
                 self.waiting = respond(
                     &mut self.application,
                     &mut self.kept,
@@ -214,19 +224,15 @@ impl<A: Application> Applet for AppletOf<A> {
                 );
                 wipe_ended(&self.waiting, &mut self.kept);
             }
-            Err(ApduFault::InvalidIns) => write(&[], word(0x6D, 0x00), response),
-            Err(ApduFault::TooShort | ApduFault::BadLength) => {
-                write(&[], word(0x67, 0x00), response);
-            }
+            Err(ApduFault::InvalidIns) => refuse(word(0x6D, 0x00), response),
+            Err(ApduFault::TooShort | ApduFault::BadLength) => refuse(word(0x67, 0x00), response),
         }
         Ok(Requests::default())
     }
 
     #[tactic(auto, using(crate::proofs::AppletLemmas::too_long_does))]
     fn too_long(&mut self, response: &mut Vec<u8>) -> Result<Requests, AllocError> {
-        response.clear();
-        response.reserve(RESPONSE_ROOM)?;
-        write(&[], word(0x67, 0x00), response);
+        refuse(word(0x67, 0x00), response);
         Ok(Requests::default())
     }
 }

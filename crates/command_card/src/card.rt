@@ -1,5 +1,5 @@
 //! The card that speaks T=0 for an application.
-use crate::answer::{buffer, judged, took, wipe, wipe_ended};
+use crate::answer::{buffer, judged, took, wipe_ended};
 use crate::application::Application;
 use crate::ready::{Ready, Waiting};
 use apdu_core::{Header, Status, count};
@@ -7,6 +7,7 @@ use std::alloc::Global;
 use std::marker::Model;
 use std::mem::swap;
 use t0_core::{DataRun, TpduCard, Verdict};
+use t1_core::wipe;
 
 /// A card over an application (ISO/IEC 7816-3, 10.3 and 12.2). It carries out each command once, at
 /// the header or after the data, and keeps the rest of a response.

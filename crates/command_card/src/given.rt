@@ -5,12 +5,12 @@ ghost use Rattle.command_card.specs.Carrying.{IsOwn};
 ghost use Rattle.command_card.specs.Given.{IsGiven, after_drop, go_to_card, new_given, settled, with_answer, without_answer};
 ghost use Rattle.command_card.specs.declared.given.Directions.TheVariants as way;
 
-use crate::answer::wipe;
 use crate::application::Application;
 use apdu_core::{Command, Header, Status};
 use std::alloc::{AllocError, Global};
 use std::marker::Model;
 use std::mem::swap;
+use t1_core::wipe;
 
 /// Which way the data of a command go.
 #[derive(Clone, Copy, Debug)]

@@ -26,7 +26,7 @@ pub mod laws;
 mod own;
 mod ready;
 
-pub use applet::{AppletOf, RESPONSE_ROOM};
+pub use applet::AppletOf;
 pub use application::{Application, GET_RESPONSE, OWN_RESPONSE_LIMIT};
 pub use card::CommandCard;
 pub use copied::{Copied, Eager};

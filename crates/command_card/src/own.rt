@@ -3,14 +3,14 @@ ghost use Rattle.std.specs.Prelude.{◌≡◌, ◌+◌, ◌≤◌, [], length, v
 ghost use Rattle.apdu_core.specs.declared.header.Header.{Header};
 ghost use Rattle.apdu_core.specs.CommandBytes.{IsCommand};
 ghost use Rattle.command_card.specs.declared.given.Directions.TheVariants as way;
-ghost use Rattle.command_card.specs.declared.applet.TheConstants.{RESPONSE_ROOM};
+ghost use Rattle.t1_core.specs.declared.applet.TheConstants.{RESPONSE_ROOM};
 ghost use Rattle.command_card.specs.Given.{Gives, at_rest, settled, takes_data};
 ghost use Rattle.command_card.specs.AtT1.{Responds, may_bring};
 ghost use Rattle.command_card.specs.View.{WaitsFor, standing_in, state_of, prepared_in};
 ghost use Rattle.command_card.specs.Wanted.{IsNotTaken, IsTaken, IsWanted, RespondsAs, forgotten_by, is_free, is_known, may_decide, need_in, taken_back, wanted_as, wanted_by, wanted_for, wanted_with};
 
-use crate::answer::{pending_for, wipe, wipe_ended, word};
-use crate::applet::{RESPONSE_ROOM, hand_out, shown, write};
+use crate::answer::{pending_for, wipe_ended, word};
+use crate::applet::{hand_out, shown, write};
 use crate::application::{Application, GET_RESPONSE, OWN_RESPONSE_LIMIT};
 use crate::card::CommandCard;
 use crate::given::{Directions, Given};
@@ -18,6 +18,7 @@ use crate::ready::{Ready, Waiting};
 use apdu_core::{Command, Header, Status, count};
 use std::alloc::AllocError;
 use t0_core::{CardEnd, Open, WholeTpdu};
+use t1_core::{RESPONSE_ROOM, wipe};
 
 /// What the application is needed for, to answer a header.
 #[derive(Clone, Copy, Debug, PartialEq, Eq)]

@@ -37,7 +37,13 @@ use Rattle.t1_terminal.proofs.LineLemmas.{all_responded, is_over, last_same, rea
 module _ {X State : Type 0} (Own : State → ℕ → Tpdu → State → Type 0) (standing : X → State) where
   -- the card above its end of the line
   abbrev pub applet : Ghosts X
-  applet = record { LIMIT = 261; State = State; standing = standing; Does = DoesAt Own }
+  applet = record {
+    LIMIT = 261;
+    State = State;
+    standing = standing;
+    Does = DoesAt Own;
+    Refuses = λ s bytes. (c : spec.Command) × IsCommand c × (bytes ≡ command_bytes c);
+  }
 
   -- law: the carried commands are a dialogue
   abbrev pub Dialogues : Type 0

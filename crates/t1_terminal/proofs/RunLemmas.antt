@@ -1,4 +1,5 @@
 -- The loop over the operations.
+use Rattle.std.specs.Prelude.{Result, Ok, Err, OnErr}
 use Rattle.std.proofs.Common.{◌≡◌, refl, sym, ap, subst, ◌∙◌, ℕ, ◌+◌, ◌≤◌, true, List, [], ◌∷◌, ◌++◌, length, map, take, drop, Option, Some, None, append_assoc, arith, ◌⊎◌, inl, inr}
 use Rattle.std.specs.List.{flat_map}
 use Rattle.std.proofs.lemmas.List.{drop-map, length-map}
@@ -48,6 +49,10 @@ of_cards Own standing state_of state own means settings first last operations an
     before after in
     subst (λ old. R old (state last)) (means first)
     (subst (λ new. R (state_of (own first)) new) (means last) ran)
+
+pub when_err : {X E : Type 0} {P : Type 0} (r : Result X E) → P → OnErr r P
+when_err (Ok x) p = tt
+when_err (Err e) p = p
 
 module _ {X State : Type 0} (Own : State → ℕ → Tpdu → State → Type 0) (standing : X → State) where
   -- both ends have carried talks of these operations with these replies

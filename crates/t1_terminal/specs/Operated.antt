@@ -22,7 +22,7 @@ use Rattle.t1_core.specs.Carried.{EndsOf, HasCarried, Past, with_command}
 use Rattle.t1_core.specs.Conversing.{Conversed}
 use Rattle.t1_core.specs.Doing.{meaning_of}
 use Rattle.t1_core.specs.Mild.{IsMild}
-use Rattle.t1_core.specs.TerminalSide.{fault_of}
+use Rattle.t1_core.specs.TerminalSide.{fault_of, is_ready}
 use Rattle.t1_core.specs.World.{start}
 use Rattle.t1_terminal.specs.CardCommand.{status_bytes}
 
@@ -114,6 +114,20 @@ StopsIn operation before commands responses why fault = (here : List Pair) × (d
     × (commands ≡ commands_in (before ++ here) ++ command_bytes due ∷ [])
     × (responses ≡ responses_in (before ++ here))
     × ((told : Fault) × (why ≡ Some told) × (fault ≡ fault_at due.header told))
+
+-- Both ends stand between two operations: the first ones were carried whole, and no block of
+-- another was sent.
+pub record StandsBetween {X : Type 0} (a : Ghosts X) (s : Start a.State)
+    (operations : List Operation) (now : List Fates) : Type 0 where
+  pub done : List Operation
+  pub left : List Operation
+  pub all : operations ≡ done ++ left
+  pub replies : List Reply
+  pub talks : List (List (List Pair))
+  pub talk : AreApduTalksOf done talks replies
+  pub ends : EndsOf X
+  pub taken : HasTaken a s (flat_map talk_pairs talks) now ends
+  pub ready : is_ready ends.terminal.phase ≡ true
 
 -- the longest response in bytes
 abbrev pub most_response : ℕ

@@ -2,6 +2,7 @@
 ghost use Rattle.std.specs.Prelude.{◌≡◌, ◌+◌, ◌≤◌, [], ◌++◌, length, true, IfOk, MatchResult, vec_capacity};
 ghost use Rattle.apdu_core.specs.StatusWord.{StatusWord, IsStatusWord};
 ghost use Rattle.t0_core.specs.CardTpdu.{rests};
+ghost use Rattle.t1_core.specs.declared.applet.TheConstants.{RESPONSE_ROOM};
 ghost use Rattle.t1_terminal.specs.CardCommand.{Answers, DoesAt, status_bytes};
 
 use apdu_core::{ApduFault, Command, Status};
@@ -10,10 +11,7 @@ use object_card::DataCard;
 use std::alloc::{AllocError, Global};
 use std::marker::Model;
 use t0_core::CardEnd;
-use t1_core::{Applet, Requests};
-
-/// The longest response in bytes: 256 of data, and the status.
-pub const RESPONSE_ROOM: usize = 258;
+use t1_core::{Applet, RESPONSE_ROOM, Requests, wipe};
 
 /// A card of data objects above its end of a line at T=1. It carries out each command as
 /// `apdu_terminal::respond` does, and makes no request before a response (profile). A response is
@@ -66,11 +64,12 @@ impl<C: DataCard> DataApplet<C> {
 
     /// Carries out a command, and writes its response, for which there is room.
     fn respond(&mut self, command: Command<'_>, response: &mut Vec<u8>) -> Result<(), AllocError>
-        requires { (response.old.items ≡ []) × (RESPONSE_ROOM ≤ vec_capacity response.old) }
-        ensures { MatchResult result
+        requires { RESPONSE_ROOM ≤ vec_capacity response.old }
+        ensures responds { MatchResult result
             (λ _. Answers C.Does (C.standing self.old.card) command.entry
             response.new.items (C.standing self.new.card))
-            (λ _. self.new ≡ self.old) }
+            (λ _. (self.new ≡ self.old) × (response.new.items ≡ response.old.items)) }
+        ensures room { RESPONSE_ROOM ≤ vec_capacity response.new }
     {
         let Ok(exchange) = respond(self.alloc, &mut self.end, command) else {
             return Err(AllocError);
@@ -83,13 +82,14 @@ impl<C: DataCard> DataApplet<C> {
     }
 }
 
-/// Writes a response, for which there is room.
+/// Replaces a response, for which there is room. The old bytes are overwritten.
 fn write(content: &[u8], status: Status, response: &mut Vec<u8>)
-    requires empty { response.old.items ≡ [] }
-    requires room { length content.now + 2 ≤ vec_capacity response.old }
+    requires { length content.now + 2 ≤ vec_capacity response.old }
     ensures bytes { response.new.items ≡ content.now ++ status_bytes status }
     ensures status { IsStatusWord status }
+    ensures room { vec_capacity response.old ≤ vec_capacity response.new }
 {
+    wipe(response);
     if response.extend_from_slice(content).is_err() {
         unreachable!()
     }
@@ -98,6 +98,10 @@ fn write(content: &[u8], status: Status, response: &mut Vec<u8>)
 }
 
 impl<C: DataCard> Applet for DataApplet<C> {
+    ghost use Rattle.std.specs.Prelude.{◌≡◌};
+    ghost use Rattle.apdu_core.specs.CommandBytes as spec;
+    ghost use Rattle.apdu_core.specs.CommandBytes.{IsCommand, command_bytes};
+
     const LIMIT: usize = COMMAND_LIMIT;
 
     ghost LIMIT = { 261 };
@@ -108,13 +112,14 @@ impl<C: DataCard> Applet for DataApplet<C> {
 
     ghost Does = { DoesAt C.Does };
 
+    // memory may run out at a command
+    ghost Refuses = { λ s bytes. (c : spec.Command) × IsCommand c × (bytes ≡ command_bytes c) };
+
     fn carry_out(
         &mut self,
         command: &[u8],
         response: &mut Vec<u8>,
     ) -> Result<Requests, AllocError> {
-        response.clear();
-        response.reserve(RESPONSE_ROOM)?;
         match Command::read(command) {
             Ok(command) => self.respond(command, response)?,
             Err(ApduFault::InvalidIns) => write(&[], status(0x6D), response),
@@ -129,8 +134,6 @@ impl<C: DataCard> Applet for DataApplet<C> {
 
     #[tactic(auto, using(crate::proofs::AnswerLemmas::too_long_does))]
     fn too_long(&mut self, response: &mut Vec<u8>) -> Result<Requests, AllocError> {
-        response.clear();
-        response.reserve(RESPONSE_ROOM)?;
         write(&[], status(0x67), response);
         Ok(Requests {
             extensions: 0,

@@ -21,5 +21,5 @@ pub mod laws;
 mod operation;
 mod operations;
 
-pub use data_applet::{DataApplet, RESPONSE_ROOM};
+pub use data_applet::DataApplet;
 pub use operations::{Operated, run};

@@ -1,6 +1,7 @@
 //! One operation over T=1: a terminal runs its commands over both ends of a line.
-ghost use Rattle.std.specs.Prelude.{◌≡◌, ◌++◌, ◌∷◌, [], ℕ, List, true, None, IfOk, OnOk, MatchResult, MatchOption, is_some};
+ghost use Rattle.std.specs.Prelude.{◌≡◌, ◌≤◌, ◌++◌, ◌∷◌, [], ℕ, List, true, None, IfOk, OnErr, MatchResult, MatchOption, is_some, length, vec_capacity};
 ghost use Rattle.apdu_core.specs.CommandBytes as spec;
+ghost use Rattle.apdu_core.specs.CommandBytes.{command_bytes};
 ghost use Rattle.apdu_core.specs.StatusWord.{StatusWord, IsStatusWord};
 ghost use Rattle.exchange_core.specs.ExchangeSide.{response_limit};
 ghost use Rattle.card_terminal.specs.Operations.{operation_of};
@@ -23,13 +24,13 @@ use apdu_terminal::{ApduTerminal, begin};
 use card_terminal::{Answer, Op};
 use object_card::DataCard;
 use std::alloc::{AllocError, Allocator, Global};
-use t1_core::{Applet, Ends, Fault, Line, Outcome, carried_commands_are_a_dialogue};
+use t1_core::{Applet, COMMAND_ROOM, Ends, Fault, Line, Outcome, carried_commands_are_a_dialogue};
 
 /// Carries out one operation. `ends.is_ready()` must hold. Returns its answer, or the fault, after
 /// which no command begins.
 ///
 /// # Errors
-/// - `AllocError`: memory ran out; a command may be in progress at either end.
+/// - `AllocError`: memory ran out before the first block of the operation; nothing has changed.
 pub fn operate<C: DataCard, L: Line, V: Allocator>(
     alloc: Global,
     ends: &mut Ends<DataApplet<C>>,
@@ -40,17 +41,21 @@ pub fn operate<C: DataCard, L: Line, V: Allocator>(
     requires started { (s : Start C.State) × (pairs : List Pair) × (card : C)
         × (C.standing card ≡ s.first) × IsCardState (C.state card)
         × HasTaken ⟦<DataApplet<C> as Applet>⟧ s pairs (L.passed line.old) ends.old }
-    ensures { IfOk result (λ r. MatchResult r
+    ensures operated { IfOk result (λ r. MatchResult r
         (λ answer. (is_ready ends.new.terminal.phase ≡ true) × ((exchanges : List (List Pair))
         × IsApduTalkOf (operation_of op.now) exchanges answer
         × Takes ⟦<DataApplet<C> as Applet>⟧ (L.passed line.old) ends.old (talk_pairs exchanges)
         (L.passed line.new) ends.new))
         (λ fault. GivesUp ⟦<DataApplet<C> as Applet>⟧ (L.passed line.old) ends.old
         (operation_of op.now) fault (L.passed line.new) ends.new)) }
+    ensures nothing_sent { OnErr result
+        ((ends.new ≡ ends.old) × (L.passed line.new ≡ L.passed line.old)) }
 {
     let mut terminal = ApduTerminal::new(alloc);
     begin(&mut terminal, op)?;
-    if let Some(fault) = go_through(alloc, ends, line, &mut terminal)? {
+    let mut command = Vec::new(alloc);
+    command.reserve_exact(COMMAND_ROOM)?;
+    if let Some(fault) = go_through(ends, line, &mut terminal, command) {
         return Ok(Err(fault));
     }
     let Some(answer) = terminal.into_answer() else {
@@ -60,16 +65,14 @@ pub fn operate<C: DataCard, L: Line, V: Allocator>(
 }
 
 /// Carries the commands of an operation that has begun, until the operation ends or the terminal's
-/// end gives up. Returns the fault, if any.
-///
-/// # Errors
-/// - `AllocError`: memory ran out; a command may be in progress at either end.
+/// end gives up. Returns the fault, if any. `command` has room for each command.
 fn go_through<C: DataCard, L: Line>(
-    alloc: Global,
     ends: &mut Ends<DataApplet<C>>,
     line: &mut L,
     terminal: &mut ApduTerminal,
-) -> Result<Option<Fault>, AllocError>
+    mut command: Vec<u8>,
+) -> Option<Fault>
+    requires room { 261 ≤ vec_capacity command }
     requires ready { is_ready ends.old.terminal.phase ≡ true }
     requires started { (s : Start C.State) × (pairs : List Pair) × (card : C)
         × (C.standing card ≡ s.first) × IsCardState (C.state card)
@@ -77,7 +80,7 @@ fn go_through<C: DataCard, L: Line>(
     requires begun { (operation : Operation) × (commands : List spec.Command)
         × AreCommandsOf operation commands × LeadsTo commands [] terminal.old.operation }
     requires limit { (terminal.old.limit ≡ response_limit) × KeepsLimit terminal.old terminal.old }
-    ensures { IfOk result (λ r. MatchOption r
+    ensures { MatchOption result
         ((is_ready ends.new.terminal.phase ≡ true)
         × (is_some (operation_answer terminal.new.operation) ≡ true)
         × ((commands : List spec.Command) → LeadsTo commands [] terminal.old.operation
@@ -87,7 +90,7 @@ fn go_through<C: DataCard, L: Line>(
         (λ fault. (operation : Operation) (commands : List spec.Command)
         → AreCommandsOf operation commands → LeadsTo commands [] terminal.old.operation
         → GivesUp ⟦<DataApplet<C> as Applet>⟧ (L.passed line.old) ends.old operation fault
-        (L.passed line.new) ends.new)) }
+        (L.passed line.new) ends.new) }
 {
     a_due_command_is_agreed();
     a_card_of_data_objects_is_taken();
@@ -95,16 +98,43 @@ fn go_through<C: DataCard, L: Line>(
     carried_commands_are_a_dialogue::<DataApplet<C>>();
     'talk: while let Some(due) = terminal.apdu() {
         let header = due.header();
-        let mut command = Vec::new(alloc);
-        due.write(&mut command)?;
-        ends.carry(line, &command)?;
+        spell(&due, &mut command);
+        let Ok(()) = ends.carry(line, &command) else {
+            unreachable!()
+        };
         if let Some(fault) = ends.fault() {
-            return Ok(Some(told(header, fault)));
+            return Some(told(header, fault));
         }
         let (content, status) = parts(ends.response());
         terminal.responded(content, status).unwrap();
     }
-    Ok(None)
+    None
+}
+
+/// Replaces the bytes by those of a command, for which there is room.
+fn spell(command: &Command<'_>, out: &mut Vec<u8>)
+    requires { 261 ≤ vec_capacity out.old }
+    ensures bytes { out.new.items ≡ command_bytes command.now }
+    ensures short { length out.new.items ≤ 261 }
+    ensures room { vec_capacity out.old ≤ vec_capacity out.new }
+{
+    let Header { cla, ins, p1, p2 } = command.header();
+    let data = command.data();
+    out.fill(0);
+    out.clear();
+    out.push_reserved(cla);
+    out.push_reserved(ins);
+    out.push_reserved(p1);
+    out.push_reserved(p2);
+    if let Some(lc) = u8::try_from(data.len()).ok().filter(|lc| *lc > 0) {
+        out.push_reserved(lc);
+        if out.extend_from_slice(data).is_err() {
+            unreachable!()
+        }
+    }
+    if let Some(le) = command.le() {
+        out.push_reserved((le % 256) as u8);
+    }
 }
 
 /// Returns the fault of the operation, whose outcome also depends on the command in progress.

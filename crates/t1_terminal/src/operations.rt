@@ -1,8 +1,8 @@
 //! A list of operations over T=1, and the result if the terminal gives up.
-ghost use Rattle.std.specs.Prelude.{◌≡◌, map, true, IfOk};
+ghost use Rattle.std.specs.Prelude.{◌≡◌, ◌⊎◌, map, true, IfOk, OnErr};
 ghost use Rattle.card_terminal.specs.Operations.{operation_of};
 ghost use Rattle.object_card.specs.State.{is_idle};
-ghost use Rattle.t1_terminal.specs.Operated.{HasRun};
+ghost use Rattle.t1_terminal.specs.Operated.{HasRun, StandsBetween};
 
 use crate::data_applet::DataApplet;
 use crate::operation::operate;
@@ -11,7 +11,9 @@ use apdu_terminal::stop_laws::{an_operation_that_stops, any_card_responds_so};
 use card_terminal::{Answers, Op};
 use object_card::DataCard;
 use std::alloc::{AllocError, Allocator, Global};
-use t1_core::{Applet, Ends, Fault, Line, Settings, carried_commands_are_a_dialogue};
+use t1_core::{
+    Applet, Ends, Fault, Line, Settings, TerminalEnd, carried_commands_are_a_dialogue, rooms_for,
+};
 
 /// The result of operations over T=1.
 #[derive(Drop)]
@@ -33,10 +35,11 @@ pub struct Operated<C: DataCard> {
 /// at most the next one, and a chain may be pending. The outcome in the fault is true of that
 /// operation. There is no fault on a mild line, where at most f blocks fail between two steps, if
 /// the settings suffice. `tries` must be at least 2 f, `extensions` at least f, and `limit` at
-/// least `RESPONSE_ROOM`.
+/// least `t1_core::RESPONSE_ROOM`.
 ///
 /// # Errors
-/// - `AllocError`: memory ran out; both ends and the card are dropped.
+/// - `AllocError`: memory ran out before the first block of an operation. Those before have been
+///   carried out whole; both ends, the card and the answers are dropped.
 pub fn run<C: DataCard + Drop, L: Line, V: Allocator>(
     alloc: Global,
     card: DataApplet<C>,
@@ -45,10 +48,14 @@ pub fn run<C: DataCard + Drop, L: Line, V: Allocator>(
     ops: &[Op<V>],
 ) -> Result<Operated<C>, AllocError>
     requires idle { is_idle (C.state card.card).pending ≡ true }
-    ensures { IfOk result (λ r. HasRun ⟦<DataApplet<C> as Applet>⟧ settings
+    ensures ran { IfOk result (λ r. HasRun ⟦<DataApplet<C> as Applet>⟧ settings
         (C.standing card.card) (C.standing r.card.card) (C.state card.card)
         (C.state r.card.card) (map operation_of ops.now) r.answers.given r.fault
         (L.passed line.old) (L.passed line.new)) }
+    ensures memory { OnErr result ((L.passed line.new ≡ L.passed line.old)
+        ⊎ StandsBetween ⟦<DataApplet<C> as Applet>⟧
+        (record { settings = settings; first = C.standing card.card; passed = L.passed line.old })
+        (map operation_of ops.now) (L.passed line.new)) }
 {
     operations_by_whole_commands_are_single_steps();
     an_operation_that_stops();
@@ -56,7 +63,9 @@ pub fn run<C: DataCard + Drop, L: Line, V: Allocator>(
     carried_commands_are_a_dialogue::<DataApplet<C>>();
     let _sound = card.card().is_idle();
     let mut answers = Answers::new(alloc);
-    let mut ends = Ends::new(alloc, card, settings);
+    let rooms = rooms_for::<DataApplet<C>>(alloc)?;
+    let terminal = TerminalEnd::new(alloc, settings)?;
+    let mut ends = Ends::new(terminal, rooms, card);
     for op in ops {
         answers.make_room()?;
         match operate(alloc, &mut ends, line, op)? {

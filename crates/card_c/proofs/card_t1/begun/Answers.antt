@@ -4,4 +4,4 @@ use Rattle.card_c.specs.CardT1Calls.{may_begin}
 use Rattle.card_c.proofs.card_t1.begun.Goals as goal
 
 pub new-requires : goal.new-requires
-new-requires c = subst (λ (s : CardSide). may_begin s ≡ true) c.in-Standing.is c.requires
+new-requires c = subst (λ (s : CardSide). may_begin s ≡ true) c.in-Standing.is c.requires.side

@@ -1,6 +1,5 @@
-use Rattle.std.proofs.Common.{rules, inl, inr, refl, subst, sym, ℤ, Option, w32, to_z, of_z}
+use Rattle.std.proofs.Common.{rules, refl, subst, sym, ℤ, Option, w32, to_z, of_z}
 use Rattle.t1_core.specs.declared.card.Reply.{Reply}
-use Rattle.card_c.specs.Codes.{gt_memory}
 use Rattle.card_c.specs.OwnT1.{SendsOwnOf, SendsWaiting}
 use Rattle.card_c.proofs.CodeLemmas.{as_it_is}
 use Rattle.card_c.proofs.OwnT1Lemmas.{no_reply}
@@ -22,22 +21,13 @@ returns-in_default c =
           ),
     )
 
-pub returns-in-Ok : goal.returns-in-Ok
-returns-in-Ok c =
+pub returns-in-Some : goal.returns-in-Some
+returns-in-Some c =
     let mid = c.take_again.new.at in let room = c.args.bytes.now in let n = c.args.count.now in
-    let told : ℤ = to_z w32 (of_z w32 c.copied.result) in (
+    let told : ℤ = to_z w32 (of_z w32 c.block_copied.result) in (
       mid,
       c.take_again.ensures,
       subst (λ (o : Option Reply).
-          SendsOwnOf o room n c.copied.new.to c.copied.new.len mid told mid)
-          (sym c.in-Some.is) (refl, inr (search rules, search rules)),
-    )
-
-pub returns-in-Err : goal.returns-in-Err
-returns-in-Err c =
-    let mid = c.take_again.new.at in let room = c.args.bytes.now in let n = c.args.count.now in (
-      mid,
-      c.take_again.ensures,
-      subst (λ (o : Option Reply). SendsOwnOf o room n room n mid gt_memory mid) (sym c.in-Some.is)
-          (refl, inl (refl, refl, refl)),
+          SendsOwnOf o room n c.block_copied.new.to c.block_copied.new.len mid told mid)
+          (sym c.in-Some.is) (refl, search rules, search rules),
     )

@@ -1,4 +1,4 @@
-use Rattle.std.proofs.Common.{[], ◌++◌, sym, ap, subst, ◌∙◌}
+use Rattle.std.proofs.Common.{arith, [], ◌++◌, sym, ap, subst, ◌∙◌}
 use Rattle.apdu_core.specs.CommandBytes.{command_bytes}
 use Rattle.t1_terminal.specs.Operated.{fault_at}
 use Rattle.t0_core.specs.CardSide.{EndOf}
@@ -16,6 +16,7 @@ pub talk-init : goal.talk-init
 talk-init g c =
     record {
       ready = c.requires.ready;
+      room = c.requires.room;
       limit = c.requires.limit.1;
       had = λ commands leads. (
         [],
@@ -43,9 +44,8 @@ returns-in-Some-fault g c = λ operation commands are leads.
     let is_due = c.in-Some.ensures in
     let had = c.talk.invariant.had commands leads in
     gives_up g.C.TpduCard.Does (standing g) _ _ _ _ _ _ commands _ c.in-Some.due _ is_due
-    (c.deref.ensures.value ∙ c.in_ok-write.ensures.ok
-    ∙ ap (λ bs. bs ++ command_bytes c.in-Some.due) c.new-command.ensures.items)
-    c.in_ok-carry.ensures.led
+    (c.deref.ensures.value ∙ c.spell.ensures.bytes)
+    c.in-Ok.ensures.led
     (sent_so g.C.TpduCard.Does (standing g) _ _ _ _ operation _ _ _
     c.a_due_command_is_agreed.ensures are is_due
     c.header-header.ensures.command had) had operation are c.in-Some-fault.fault c.told.result
@@ -60,13 +60,12 @@ parts-status-requires g c =
     let had = c.talk.invariant.had commands leads in
     let (p, of, word, got, goes) =
     pair_now g.C.TpduCard.Does (standing g) _ _ _ _ _ _ commands _ c.in-Some.due _ is_due
-    (c.deref.ensures.value ∙ c.in_ok-write.ensures.ok
-    ∙ ap (λ bs. bs ++ command_bytes c.in-Some.due) c.new-command.ensures.items)
-    c.in_ok-carry.ensures.led
+    (c.deref.ensures.value ∙ c.spell.ensures.bytes)
+    c.in-Ok.ensures.led
     (sent_so g.C.TpduCard.Does (standing g) _ _ _ _ operation _ _ _
     c.a_due_command_is_agreed.ensures are is_due
     c.header-header.ensures.command had) had c.carried_commands_are_a_dialogue.ensures
-    c.in_ok-carry.ensures.stopped c.in_default-fault.ensures m.0
+    c.in-Ok.ensures.stopped c.in_default-fault.ensures m.0
     (started_so g.C.TpduCard.Does (standing g) m.0 g.C.DataCard.state g.C.TpduCard.standing m.1 _ _
     c.requires.started) in
     (p.content, p.status, word, c.response.ensures ∙ got)
@@ -82,13 +81,12 @@ unwrap-requires g c =
     c.requires.started in
     let (p, of, word, got, goes) =
     pair_now g.C.TpduCard.Does (standing g) _ _ _ _ _ _ commands _ c.in-Some.due _ is_due
-    (c.deref.ensures.value ∙ c.in_ok-write.ensures.ok
-    ∙ ap (λ bs. bs ++ command_bytes c.in-Some.due) c.new-command.ensures.items)
-    c.in_ok-carry.ensures.led
+    (c.deref.ensures.value ∙ c.spell.ensures.bytes)
+    c.in-Ok.ensures.led
     (sent_so g.C.TpduCard.Does (standing g) _ _ _ _ operation _ _ _
     c.a_due_command_is_agreed.ensures are is_due
     c.header-header.ensures.command had) had c.carried_commands_are_a_dialogue.ensures
-    c.in_ok-carry.ensures.stopped c.in_default-fault.ensures m.0 start in
+    c.in-Ok.ensures.stopped c.in_default-fault.ensures m.0 start in
     let content = c.parts-status.result.0.now in
     let status = c.parts-status.result.1 in
     is_taken g.C.TpduCard.Does m.0 (c.any_card_responds_so.ensures m.0 m.2)
@@ -108,8 +106,9 @@ talk-preserved g c =
     let is_due = c.in-Some.ensures in
     let (operation, commands_0, are, leads_0) = c.requires.begun in
     record {
-      ready = ap is_ready (is_over t.phase t c.in_ok-carry.ensures.stopped
+      ready = ap is_ready (is_over t.phase t c.in-Ok.ensures.stopped
           (sym c.in_default-fault.ensures));
+      room = (let a = c.spell.ensures.room in let b = c.talk.invariant.room in omega (arith, a, b));
       limit = record {
         stays = c.responded.ensures.limit.stays ∙ c.talk.invariant.limit.stays;
         is_room = c.responded.ensures.limit.is_room;
@@ -117,13 +116,12 @@ talk-preserved g c =
       had = λ commands leads.
           let had = c.talk.invariant.had commands leads in
           leads_on g.C.TpduCard.Does (standing g) _ _ _ _ _ _ commands _ c.in-Some.due _ is_due
-          (c.deref.ensures.value ∙ c.in_ok-write.ensures.ok
-          ∙ ap (λ bs. bs ++ command_bytes c.in-Some.due) c.new-command.ensures.items)
-          c.in_ok-carry.ensures.led
+          (c.deref.ensures.value ∙ c.spell.ensures.bytes)
+          c.in-Ok.ensures.led
           (sent_so g.C.TpduCard.Does (standing g) _ _ _ _ operation _ _ _
           c.a_due_command_is_agreed.ensures are is_due c.header-header.ensures.command
           (c.talk.invariant.had commands_0 leads_0)) had
-          c.carried_commands_are_a_dialogue.ensures c.in_ok-carry.ensures.stopped
+          c.carried_commands_are_a_dialogue.ensures c.in-Ok.ensures.stopped
           c.in_default-fault.ensures c.parts-status.result.0.now c.parts-status.result.1
           c.responded.new.self.operation (sym c.response.ensures ∙ c.parts-status.ensures)
           (rw c.unwrap.ensures at (c.responded.ensures.responding.led commands had.0 had.1));

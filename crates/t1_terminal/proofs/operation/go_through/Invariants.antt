@@ -1,4 +1,5 @@
-use Rattle.std.proofs.Common.{◌≡◌, true, List, []}
+use Rattle.std.specs.Vec.{vec_capacity}
+use Rattle.std.proofs.Common.{◌≤◌, ◌≡◌, true, List, []}
 use Rattle.apdu_core.specs.CommandBytes.{Command}
 use Rattle.t0_core.specs.CardSide.{EndOf}
 use Rattle.apdu_terminal.specs.ApduOperations.{KeepsLimit, LeadsTo, may_follow}
@@ -10,6 +11,7 @@ use Rattle.t1_terminal.proofs.operation.go_through.Given as goal
 abbrev pub invariant-talk : goal.invariant-talk
 invariant-talk g l = record {
   ready : is_ready l.ends.terminal.phase ≡ true;
+  room : 261 ≤ vec_capacity l.command;
   limit : KeepsLimit l.fn.terminal l.terminal;
   had : (commands : List Command) → LeadsTo commands [] l.fn.terminal.operation
       → HasHad g.C.TpduCard.Does (λ (x : EndOf g.row.C.Denot). g.C.TpduCard.standing x.card)

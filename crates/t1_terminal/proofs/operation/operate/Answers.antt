@@ -18,26 +18,26 @@ go_through-requires-clause-limit g c = (
   record { stays = refl; is_room = c.begin.ensures.limit.is_room },
 )
 
-pub returns-in-Some : goal.returns-in-Some
-returns-in-Some g c =
+pub returns-in-Some-clause-operated : goal.returns-in-Some-clause-operated
+returns-in-Some-clause-operated g c =
     let (commands, are, leads) = c.in_ok-begin.ensures.begun in
-    let gives_up = rw c.in-Some.is at c.in_ok-fault.ensures in
+    let gives_up = rw c.in-Some.is at c.go_through.ensures in
     gives_up (operation_of c.args.op.now) commands are leads
 
 pub unreachable-requires : goal.unreachable-requires
 unreachable-requires g c =
     let (ready, over, led) =
-    when_none _ _ _ c.in_default.not-Some c.in_ok-fault.ensures in
+    when_none _ _ _ c.in_default.not-Some c.go_through.ensures in
     is_there _ c.into_answer.result c.in_default-into_answer.not-Some
     (ap is_some c.into_answer.ensures.is ∙ over)
 
-pub returns : goal.returns
-returns g c =
+pub returns-clause-operated : goal.returns-clause-operated
+returns-clause-operated g c =
     let card = g.C.TpduCard in
     let standing = λ (x : EndOf g.row.C.Denot). card.standing x.card in
     let (commands, are, leads) = c.in_ok-begin.ensures.begun in
     let (ready, over, led) =
-    when_none _ _ _ c.in_default.not-Some c.in_ok-fault.ensures in
+    when_none _ _ _ c.in_default.not-Some c.go_through.ensures in
     let (here, on, takes) = led commands leads in
     let (exchanges, apdus, same) = c.in-Some-into_answer.ensures.led commands here on in (
       ready,

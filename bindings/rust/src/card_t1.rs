@@ -43,7 +43,7 @@ impl<A: Application> CardT1<A> {
     ///
     /// # Errors
     ///
-    /// None today.
+    /// - [`Error::Memory`]: memory for a command and a response ran out. The card is dropped.
     pub fn new(card: Card<A>) -> Result<CardT1<A>, Error> {
         let mut end = CardT1(card);
         end.reset()?;
@@ -56,9 +56,9 @@ impl<A: Application> CardT1<A> {
     ///
     /// # Errors
     ///
-    /// - [`Error::Memory`]: memory ran out. The block and the response before it are dropped, no
-    ///   command is carried out, and there is no answer. The terminal asks again. At a card of your
-    ///   own this error comes from [`block_into`](CardT1::block_into).
+    /// - [`Error::Memory`]: memory ran out for a command. It is not carried out, and there is no
+    ///   answer, as if its last block had been lost: the terminal asks. At a card of your own this
+    ///   error comes from [`block_into`](CardT1::block_into).
     /// - [`Error::State`]: see [`block_into`](CardT1::block_into).
     pub fn receive(&mut self, bytes: &[u8]) -> Result<Received, Error> {
         let (card, mut taken) = (&self.0 .0, 0);
@@ -97,7 +97,8 @@ impl<A: Application> CardT1<A> {
     ///
     /// # Errors
     ///
-    /// - [`Error::Memory`]: memory ran out. If no application was called, nothing has changed.
+    /// - [`Error::Memory`]: memory ran out for a command, at a card of your own. If no application
+    ///   was called, nothing has changed.
     /// - [`Error::Buffer`]: `room` is too short. The block stays; a card of your own may have
     ///   carried out its command.
     /// - Those of an application of your own, see [`OwnCard`](crate::OwnCard): they reset the card,
@@ -116,7 +117,8 @@ impl<A: Application> CardT1<A> {
     ///
     /// # Errors
     ///
-    /// None today.
+    /// - [`Error::Memory`]: memory for a command and a response ran out. Until this succeeds, the
+    ///   other calls are [`Error::State`].
     pub fn reset(&mut self) -> Result<(), Error> {
         self.0.reset()?;
         done(self.0 .0.galliumtoad_card_t1_begin())

@@ -157,7 +157,8 @@ impl T1 {
     /// There is no end after either.
     ///
     /// - [`Error::Argument`]: `edc` is not [`Edc::Lrc`], or `ifsc` is 0 or 255.
-    /// - [`Error::Memory`]: it ran out.
+    /// - [`Error::Memory`]: it ran out. The end takes the room for a short command and for
+    ///   `limits.response` bytes at once.
     pub fn new(edc: Edc, ifsc: u8, limits: T1Limits) -> Result<T1, Error> {
         let t1 = Handle::<raw::T1>::empty();
         let (edc, tries, extensions) = (edc as u8, limits.tries, limits.extensions);
@@ -172,7 +173,7 @@ impl T1 {
     /// After each of these nothing has changed.
     ///
     /// - [`Error::State`]: a command is in progress, or the end gave up.
-    /// - [`Error::Memory`]: it ran out.
+    /// - [`Error::Memory`]: it ran out, for a command of more than 261 bytes.
     pub fn begin(&mut self, command: &[u8]) -> Result<(), Error> {
         done(self.0.galliumtoad_t1_begin(command))
     }
@@ -187,7 +188,6 @@ impl T1 {
     /// After each of these nothing has changed.
     ///
     /// - [`Error::Failed`]: the end gave up, see [`fault`](T1::fault).
-    /// - [`Error::Memory`]: it ran out.
     /// - [`Error::Buffer`]: `room` is too short. [`BLOCK_LIMIT`] bytes are always enough.
     pub fn block_into(&self, room: &mut [u8]) -> Result<Option<Block>, Error> {
         let (end, mut count, mut waits) = (&self.0, 0, 0);
@@ -205,8 +205,6 @@ impl T1 {
     ///
     /// - [`Error::State`]: no block is awaited, since no command is in progress or the end gave up.
     ///   Nothing has changed.
-    /// - [`Error::Memory`]: it ran out. The bytes of the block are kept: call again with none, or
-    ///   [`missed`](T1::missed).
     pub fn receive(&mut self, bytes: &[u8]) -> Result<Received, Error> {
         let mut taken = 0;
         let code = self.0.galliumtoad_t1_receive_bytes(bytes, &mut taken);

@@ -137,7 +137,8 @@ class OwnCard(Planned):
     def begin_t1(self) -> None:
         """Lets the card speak T=1 until the next reset, also one by an exception. Until then
         `receive_bytes`, `send_bytes`, `tpdu`, `apdu` and `plan` raise `CallError`, GT_STATE: use
-        `block`. So does this if the card speaks T=1 already, or if a TPDU is in progress."""
+        `block`. So does this if the card speaks T=1 already, or if a TPDU is in progress. It raises
+        `OutOfMemory` if memory for a command and a response ran out; nothing has changed."""
         self._call("t1_begin")
 
     def block(self, came: Bytes) -> bytes:
@@ -147,7 +148,8 @@ class OwnCard(Planned):
 
         Errors, beside the exceptions that `OwnCard` names:
         - CallError, GT_STATE: the card speaks T=0; nothing has changed.
-        - OutOfMemory, before the application is asked: there is no answer. The terminal asks again.
+        - OutOfMemory, before the application is asked: there is no answer, as if the block had been
+          lost. The terminal asks.
         """
         if self._call("t1_receive_bytes", *readable(came), ffi.new("size_t *")) != lib.GT_SENDS:
             self._call("t1_missed")

@@ -339,7 +339,7 @@ class T1(Lasting):
           is still in progress. Reset the card and this end. What is false, as None, counts as no
           bytes.
         - CallError, GT_STATE: a command is still in progress, or the end gave up and was not reset.
-        - OutOfMemory: memory ran out. Reset the card and this end.
+        - OutOfMemory: memory ran out for a command of more than 261 bytes. Nothing was sent.
         """
         self._call("begin", *readable(command))
         waits, taken, room = ffi.new("uint8_t *"), ffi.new("size_t *"), lib.GT_BLOCK_LIMIT

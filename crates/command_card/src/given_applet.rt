@@ -45,6 +45,7 @@ impl Applet for GivenApplet {
 
     #[tactic(auto, using(crate::proofs::AppletLemmas::forgotten_stands))]
     fn carry_out(&mut self, command: &[u8], response: &mut Vec<u8>) -> Result<Requests, AllocError>
+        requires { RESPONSE_ROOM ≤ vec_capacity response.old }
         ensures does { MatchResult result
             (λ asks. DoesBytes RespondsAtT1 (standing_in at_rest self.old.end.card) (record {
               command = command.now;

@@ -17,7 +17,7 @@ returns-clause-hands c =
     let count_is : count ≡ min n left = omega (arith, c.unwrap_or.ensures, c.min-count.ensures) in
     hands_out n c.args.from first left count bytes c.write.new.response.items c.args.status
     c.announcing.result (left_of bytes c.fetch_left.result) first_is left_is count_is
-    (c.write.ensures
+    (c.write.ensures.bytes
     ∙ ap (λ (xs : List ℕ). take (first + count - first) (drop first xs)
     ++ status_bytes c.announcing.result) c.deref.ensures.value)
     (c.announcing.ensures (drop n (drop c.args.from bytes))

@@ -218,6 +218,7 @@ WHOLE_AT_T0 = [
     ("command 2, power off", 2, b"\xdagone"),
     ("command 2, reset", 2, b"\x69\x85"),
     ("command 2, byte 2 flip", 2, b"\xda\x91\x00"),
+    ("command 4, data 0102", 4, b"\xda\x01\x02\x90\x00"),
     ("command 5, 6C again", 5, b"\x6c\x01"),
     ("command 5, 61 without end", 5, b"\xca" + FIRST + b"\x61\x10"),
     ("every C0, flip 7", 1, b"\xc0\xef" + FCI[1:] + b"\x90\x00"),

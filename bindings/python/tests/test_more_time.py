@@ -35,10 +35,10 @@ class Works(Application):
 """
 SLEEPS = "time.sleep(0.01)"
 # No other thread of Python runs meanwhile.
-HOLDS = "ctypes.PyDLL(None).usleep(2_000_000); Path('go').touch()"
+HOLDS = "ctypes.PyDLL(None).usleep(5_000_000); Path('go').touch()"
 READ, UPDATE = bytes.fromhex("80B0000003"), bytes.fromhex("80D600000141")
-# A waiting time of 0.1 seconds: WI is 1, and BWI is 0.
-T0, T1 = "3B804001", "3B8081210D2D"
+# A waiting time of 0.1 seconds: WI is 1, and BWI is 0. At T=1 WI is 255, which has no effect there.
+T0, T1 = "3B804001", "3B80C1FF210D92"
 MORE, MADE = 0xC3, 0xE3  # S(WTX request) and S(WTX response)
 
 
@@ -79,11 +79,11 @@ def test_at_t0(works, work):
 
 
 def test_a_null_comes_in_time(works):
-    """In half of WWT, which a machine that is busy may double."""
+    """After half of WWT."""
     card = works("--atr", T0).open(T0)
     begun = time.monotonic()
     assert card.talk(READ, 20) == b"\x60" * 20
-    assert 0.9 < time.monotonic() - begun < 2
+    assert 0.9 < time.monotonic() - begun < 3.5  # a busy machine is late
     (card.folder / "go").touch()
 
 
@@ -106,7 +106,8 @@ def test_at_t1(works, work, words):
     for _ in range(2):
         assert card.talk(block(0, MADE, asked[3:4]), 0) == b""
         assert card.read(5) == asked
-    assert 0.4 < (time.monotonic() - begun) / (0.1 * multiple) < 2  # half of what it asked for, twice
+    # Half of what it asked for, twice. A busy machine is late.
+    assert 0.4 < (time.monotonic() - begun) / (0.1 * multiple) < 6
     (card.folder / "go").touch()
     wait_until((card.folder / "ended").exists)
     assert card.read(1, 0.5) == b""  # the answer waits for the response

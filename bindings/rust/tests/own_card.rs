@@ -31,8 +31,8 @@ enum Step {
 use Step::{Asked, Did, Reset, Settled, Waits};
 
 /// INS A4 and D6 take data. P1-P2 is the number of bytes of a response: to B0 and A4 9000 follows
-/// them, to B2 6283. D6 has none: 9000. P1-P2 of 5A is the status. It asks as often for more time as
-/// `multiple` says, which counts down.
+/// them, to B2 6283. D6 has none: 9000. P1-P2 of 5A is the status. It asks for more
+/// time as often as `multiple` says, which counts down.
 struct Probe {
     steps: RefCell<Vec<Step>>,
     multiple: u8,

@@ -103,7 +103,7 @@ class Simulator(contextlib.ExitStack):
                 return b"\x6D\x00" if why.code is Code.INVALID_INS else b"\x67\x00"
 
     def sent(self) -> bytes:
-        """The card's next characters, without NULLs by which its application asks for time."""
+        """The card's next characters, without the NULLs that its application asks for."""
         with self.working():
             return b"".join(iter(self.card.send_bytes, b"")).lstrip(NULL)
 
@@ -354,8 +354,8 @@ class Line(Application):
             self.write(sent)
 
     def request(self, request: bytes, times: float) -> None:
-        """Sends a request of the card, at most so many times, until the terminal responds, or has
-        a request that drops the command, which is then `ahead`."""
+        """Sends a request of the card, at most this number of times, until the terminal responds or
+        drops the command by a request of its own, which is then `ahead`."""
         while times > 0 and not self.ahead:
             times -= 1
             self.write(request)

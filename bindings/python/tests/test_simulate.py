@@ -164,12 +164,12 @@ def test_characters_of_a_tty(monkeypatch, atr, parity):
     monkeypatch.setattr(simulate.termios, "tcsetattr", lambda *words: asked.append(words[2]))
     of = Simulator(Card({bytes(5): {}}), bytes.fromhex(atr))
     monkeypatch.setattr(Line, "talk", lambda line: of.is_over.set())
-    simulate.serve_tty(of, os.ttyname(theirs), 38400, "")
+    simulate.serve_tty(of, os.ttyname(theirs), 57600, "")
     [(_, _, bits, modes, *rates, _)] = asked
     wanted = termios.CS8 | termios.CREAD | termios.PARENB | termios.CSTOPB | parity
     assert bits & (wanted | termios.CSIZE | termios.PARODD) == wanted
     assert not modes & (termios.ICANON | termios.ECHO | termios.ISIG)
-    assert rates == [termios.B38400] * 2
+    assert rates == [termios.B57600] * 2
 
 
 def test_a_tty_belongs_to_one_program(files):

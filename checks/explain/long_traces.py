@@ -22,6 +22,7 @@ def traces():
     yield passed_over(250)
     yield alike()
     yield from long_logs()
+    yield from heads()
     yield dropped_chains(16, "50 3132  application label \"12\"")
     yield dropped_chains(17, "**")
 
@@ -66,6 +67,22 @@ def long_logs():
         titles = [f"#{it + 1} GET DATA of 5F22  (line {3 * it + notes + 1})" for it in range(count)]
         shown = [f"| {line}" for line in given[:notes]]
         yield f"a head with {notes} notes", [], given, [*shown, *titles], "form: jcshell\n"
+
+
+def heads():
+    """A log whose first line is among the first 64 lines and 65,536 bytes, or right behind them.
+    The lines before end with 1,024 bytes, and a program that reads so many at once sees no more."""
+    log = ["C-APDU: 00CA5F2003", "R-APDU: 4A4F459000"]
+    for is_found, notes in ((True, ["n" * 15] * 62 + ["n" * 31]), (False, ["n" * 15] * 64),
+                            (True, ["n" * 65_000]), (False, ["n" * 65_535])):
+        place = len(notes) + 1
+        shown = [f"| {line[it:it + 96]}" for line in notes for it in range(0, len(line), 96)]
+        title = [f"#1 GET DATA of 5F20  (line {place})"]
+        error = (f"line {place}: no form reads this line with bytes; try `--form`, `--tpdu` or"
+                 f" `--form-file`: {log[0]}\n")
+        name = f"a log behind {len(notes)} lines of {len(notes[-1])} bytes"
+        yield (name, [], notes + log, shown + (title if is_found else [f"| {it}" for it in log]),
+               "form: C-APDU\n" if is_found else error)
 
 
 def titles_of(made):

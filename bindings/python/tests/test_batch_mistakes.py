@@ -33,6 +33,7 @@ CELLS = [
 SCRIPTS = [
     ("put 5F20 @{age}\n", "1: no column 'age': the table has 'name', 'code'"),
     ("put 5F20 @{Name}\n", "1: no column 'Name': the table has 'name', 'code'"),
+    ("put {age} {age}\n", "1: no column 'age': the table has 'name', 'code'"),
     ("take 5F20\n", "1: `take` is no operation: it is one of select, send, get, put"),
     ("\x1b[2J 5F20\n", "1: `\\x1b[2J` is no operation: it is one of select, send, get, put"),
     ("get 5F20 41\n", "1: `get` has 2 words, not 1"),

@@ -69,7 +69,7 @@ def line_of(text, place):
 
 class Repository:
     """All files that the check reads: a text for each path. `all` has those of every other kind
-    too."""
+    too; what holds a NUL has none."""
 
     def __init__(self, texts, more=()):
         self.texts, self.all = texts, {**texts, **dict(more)}
@@ -88,7 +88,9 @@ class Repository:
         texts = {True: {}, False: {}}
         for file in files_of(top):
             is_read = file.suffix in READ or is_script(file)
-            texts[is_read][str(file.relative_to(top))] = file.read_text(errors="replace")
+            data = file.read_bytes()
+            text = "" if b"\0" in data else data.decode(errors="replace")
+            texts[is_read][str(file.relative_to(top))] = text
         return cls(texts[True], texts[False])
 
     def code(self, *suffixes):

@@ -1687,9 +1687,9 @@ GT_MUST_CHECK int32_t gt_card_t1_send_bytes(gt_card *c, uint8_t *bytes, size_t r
  * - GT_SENDS: the block is whole, valid or not. `gt_card_t1_send_bytes` has the answer, or says
  *   what waits at a card of your own.
  * - GT_STATE: the card does not speak T=1. Nothing changes.
- * - GT_MEMORY: it ran out for a command, at a card of data objects alone. The command is not carried
- *   out, and there is no answer, as if its last block had been lost: the terminal asks. `taken` is
- *   set. At a card of your own gt_card_t1_send_bytes returns this code. */
+ * - GT_MEMORY: it ran out for a command, at a card of data objects alone. The command is not
+ *   carried out, and there is no answer, as if its last block had been lost: the terminal asks.
+ *   `taken` is set. At a card of your own gt_card_t1_send_bytes returns this code. */
 GT_MUST_CHECK int32_t gt_card_t1_receive_bytes(gt_card *c, const uint8_t *bytes, size_t n,
                                                size_t *taken) {
     if (!c || (!bytes && n) || !taken) return GT_NULL;

@@ -73,7 +73,7 @@ OnLine Calls OwnCalls Untold (OwnAtT1 at) code new =
 OnLine Calls OwnCalls Untold side code new = (code ≡ gt_state) × (new ≡ side) × Untold
 
 -- The block of the reply is written. Before the terminal's first block, and after a block at which
--- memory ran out, there is none.
+-- memory ran out, no block is.
 abbrev pub SendsOf : Option Reply → List ℕ → ℕ → List ℕ → ℕ → CardT1Side → ℤ → Type 0
 SendsOf None room n room' n' at code = (code ≡ gt_done) × (room' ≡ room) × (n' ≡ n)
 SendsOf (Some reply) room n room' n' at code =

@@ -13,7 +13,8 @@ none_of (Some side) is = absurd (cc)
 pub returns-in-Ok-new : goal.returns-in-Ok-new
 returns-in-Ok-new c =
     let s = c.in-Some.settings in
-    let made : c.in-Ok-new.side.value ≡ record { end = fresh s; block = [] } = c.in-Ok-new.ensures.ok
+    let made : c.in-Ok-new.side.value ≡ record { end = fresh s; block = [] } =
+    c.in-Ok-new.ensures.ok
     ∙ ap (λ e. record { end = e; block = c.new-block.result }) c.in-Ok.ensures
     ∙ ap (λ b. record { end = fresh s; block = b }) c.new-block.ensures in
     subst (λ (o : Option T1Side). HasBegun c.args.edc c.args.ifsc c.args.tries c.args.extensions

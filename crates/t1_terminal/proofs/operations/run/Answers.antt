@@ -41,7 +41,8 @@ operate-requires-clause-started g c =
       flat_map talk_pairs talks,
       c.args.card.card,
       refl,
-      subst (λ x. IsCardState (g.C.DataCard.state x)) c.card-2.ensures c.is_idle-sound.ensures.sound,
+      subst (λ x. IsCardState (g.C.DataCard.state x)) c.card-2.ensures
+          c.is_idle-sound.ensures.sound,
       taken,
     )
 

@@ -145,25 +145,27 @@ static void of_a_card(void) {
     gt_card_free(&card);
 }
 
-/* Without memory for a block the end keeps its bytes, and takes it by the next call. */
+/* No block takes memory. */
 static void comes(uint8_t pcb, const uint8_t *info, size_t m) {
     uint8_t block[GT_BLOCK_LIMIT];
     const size_t size = block_of(block, pcb, info, m);
-    int32_t code = gt_t1_receive_bytes(&end, block, size, &n);
+    CHECK(gt_t1_receive_bytes(&end, block, size, &n), GT_SENDS);
     CHECK(n, size);
-    while (code == GT_MEMORY) code = gt_t1_receive_bytes(&end, block, 1, &n);
-    CHECK(code, GT_SENDS);
 }
 
 static void sends(uint8_t pcb) {
     uint8_t block[GT_BLOCK_LIMIT], waits;
-    GETS(gt_t1_send_bytes(&end, block, sizeof block, &n, &waits), GT_OK);
+    CHECK(gt_t1_send_bytes(&end, block, sizeof block, &n, &waits), GT_OK);
     CHECK(block[1], pcb);
 }
 
+/* The end has its memory from the start: it needs more for a longer command alone. */
 static void of_an_end_at_t1(void) {
+    static const uint8_t LONG[GT_APDU_LIMIT + 1];
     GETS(gt_t1_new(&end, GT_LRC, 254, 4, 16, 258), GT_OK);
-    GETS(gt_t1_begin(&end, apdu, sizeof apdu), GT_OK);
+    GETS(gt_t1_begin(&end, LONG, sizeof LONG), GT_OK);
+    CHECK(gt_t1_reset(&end), GT_OK);
+    CHECK(gt_t1_begin(&end, apdu, sizeof apdu), GT_OK);
     sends(0xC1);
     comes(0xE1, BYTES("\xFE"));
     sends(0x20);
@@ -177,7 +179,7 @@ static void of_an_end_at_t1(void) {
     gt_t1_free(&end);
 }
 
-/* Without memory the card drops the block, and has not carried out its command. */
+/* Without memory for a command there is no answer, and the card has not carried it out. */
 static void card_hears(uint8_t pcb, const uint8_t *info, size_t m) {
     uint8_t block[GT_BLOCK_LIMIT];
     const size_t size = block_of(block, pcb, info, m);
@@ -186,12 +188,12 @@ static void card_hears(uint8_t pcb, const uint8_t *info, size_t m) {
         CHECK(n, size);
         CHECK(gt_card_t1_send_bytes(&card, data, 258, &n), GT_DONE);
     }
-    GETS(gt_card_t1_send_bytes(&card, data, 258, &n), GT_OK);
+    CHECK(gt_card_t1_send_bytes(&card, data, 258, &n), GT_OK);
 }
 
 static void of_a_card_at_t1(void) {
     build();
-    CHECK(gt_card_t1_begin(&card), GT_OK);
+    GETS(gt_card_t1_begin(&card), GT_OK);
     card_hears(0x00, SELECT);
     CHECK_BYTES(data, "\x00\x00\x02\x61\x0B\x68", 6);
     card_hears(0x60, BYTES("\x00\xCA\x5F"));
@@ -286,7 +288,7 @@ static void figure_of_plans(size_t many, size_t tpdus) {
 static void figure_of_t1(size_t size, size_t response) {
     peak = 0;
     CHECK(gt_t1_new(&end, GT_LRC, 254, 4, 16, 258), GT_OK);
-    CHECK(taken, 368);
+    CHECK(taken, 368 + GT_APDU_LIMIT + 258);
     CHECK(gt_t1_begin(&end, apdu, size), GT_OK);
     comes(0xE1, BYTES("\xFE"));
     sends(size > 254 ? 0x20 : 0x00);
@@ -294,7 +296,7 @@ static void figure_of_t1(size_t size, size_t response) {
     if (response > 254) comes(0x20, value, 254);
     comes(response > 254 ? 0x40 : 0x00, value, response > 254 ? response - 254 : response);
     CHECK(gt_t1_response(&end, data, sizeof data, &n), GT_OK);
-    CHECK(peak <= 368 + size + 3 * response + 258, 1);
+    CHECK(peak, 368 + GT_APDU_LIMIT + 258);
     gt_t1_free(&end);
     CHECK(taken, 0);
 }
@@ -308,13 +310,13 @@ static void figure_of_a_card_at_t1(size_t size, size_t field) {
     put[4] = (uint8_t)size;
     before = peak = taken;
     CHECK(gt_card_t1_begin(&card), GT_OK);
-    CHECK(taken, before);
+    CHECK(taken, before + GT_APDU_LIMIT + 258);
     for (at = 0; at < size + 5; at += m, number ^= 0x40) {
         m = size + 5 - at < field ? size + 5 - at : field;
         card_hears(number | (at + m < size + 5 ? 0x20 : 0), put + at, m);
     }
     CHECK_BYTES(data + 2, "\x02\x90\x00", 3);
-    CHECK(peak <= before + 770 + size + 2 * (size + 5), 1);
+    CHECK(peak <= before + GT_APDU_LIMIT + 258 + 512 + size, 1);
     gt_card_free(&card);
 }
 

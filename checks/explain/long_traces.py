@@ -71,7 +71,7 @@ def long_logs():
 
 def heads():
     """A log whose first line is among the first 64 lines and 65,536 bytes, or right behind them.
-    The lines before end with 1,024 bytes, and a program that reads so many at once sees no more."""
+    The lines before end with 1,024 bytes, and a program that reads as many at once sees no more."""
     log = ["C-APDU: 00CA5F2003", "R-APDU: 4A4F459000"]
     for is_found, notes in ((True, ["n" * 15] * 62 + ["n" * 31]), (False, ["n" * 15] * 64),
                             (True, ["n" * 65_000]), (False, ["n" * 65_535])):

@@ -106,8 +106,8 @@ or `--protocol`";
 
 /// What the program reads and prints.
 pub const TRACE: &str = "\
-The trace is on standard input or in the files, in lines as `card_trace play`
-prints them:
+The trace is on standard input or in the files, in lines as `card_trace
+play` prints them:
 
   > HEX    characters of the terminal
   < HEX    characters of the card, or `<` alone for none
@@ -168,14 +168,14 @@ line `> HEX` of exactly five characters, which it takes for a header. That may
 be the line of the byte itself. It prints which lines it skipped.
 
 With `--unsigned` lines of digits alone are characters of either end, as in a
-log of a line with one wire. A time may precede them, but not a count, which is
-digits too. The dialogue shows who sent each character, and the class and INS
-show which way the data go. `--to-card` and `--from-card` set that for other
-instructions, or change it. If nothing shows who sent a character, the program
-prints its line and place, and stops. The trace begins with an answer to reset
-or a header, also after a line `reset`. An answer whose first character is `3B`
-or `3F` may begin after each TPDU. With `--resume` the program continues only at
-a line `reset`.
+log of a line with one wire. A time may precede them, but not a count, which
+is digits too. The dialogue shows who sent each character, and the class and
+INS show which way the data go. `--to-card` and `--from-card` set that for
+other instructions, or change it. If nothing shows who sent a character, the
+program prints its line and place, and stops. The trace begins with an answer
+to reset or a header, also after a line `reset`. An answer whose first
+character is `3B` or `3F` may begin after each TPDU. With `--resume` the
+program continues only at a line `reset`.
 
 With `--tpdu` the lines are a log of whole TPDUs or APDUs, and an answer follows
 each command. They have the form of `--form`. Without it they are `> HEX` and `<

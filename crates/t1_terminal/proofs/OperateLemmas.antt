@@ -42,7 +42,7 @@ module _ {X State : Type 0} (Own : State → ℕ → Tpdu → State → Type 0) 
     State = State;
     standing = standing;
     Does = DoesAt Own;
-    Refuses = λ s bytes. (c : spec.Command) × IsCommand c × (bytes ≡ command_bytes c);
+    Refuses = λ s bytes. (c : Command) × IsCommand c × (bytes ≡ command_bytes c);
   }
 
   -- law: the carried commands are a dialogue

@@ -1,5 +1,4 @@
 use Rattle.std.proofs.Common.{arith, [], ◌++◌, sym, ap, subst, ◌∙◌}
-use Rattle.apdu_core.specs.CommandBytes.{command_bytes}
 use Rattle.t1_terminal.specs.Operated.{fault_at}
 use Rattle.t0_core.specs.CardSide.{EndOf}
 use Rattle.apdu_terminal.specs.ApduOperations.{HasRoomFor}

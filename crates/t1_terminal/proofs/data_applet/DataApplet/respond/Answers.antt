@@ -11,8 +11,8 @@ unreachable-requires g c =
     c.in-Ok.ensures.responds
     (λ s over. c.in_default-status.not-Some s ((c.status.ensures s).1 over))
 
-pub returns : goal.returns
-returns g c =
+pub returns-clause-responds : goal.returns-clause-responds
+returns-clause-responds g c =
     let ex = c.in-Ok.exchange in let status = c.in-Some.status in
     subst (λ (e : EndOf g.row.C.Denot). Answers g.C.TpduCard.Does (g.C.TpduCard.standing e.card)
     c.args.command c.write.new.response.items (g.C.TpduCard.standing c.respond.new.end.card))

@@ -570,8 +570,8 @@ typedef struct gt_atr {
  * - a card        10,571 with one application and one object of 3 bytes, and 27,234 together with a
  *                 gt_exchange of SELECT or GET DATA by characters; 4,241,200 with all that a card
  *                 can hold. A call of gt_card_tpdu adds at most 256, of gt_card_apdu 512, and what
- *                 PUT DATA takes: see gt_card_tpdu. gt_card_t1_begin adds 519, and a command at T=1
- *                 at most 512 and the bytes of the value that it stores
+ *                 PUT DATA takes: see gt_card_tpdu. gt_card_t1_begin adds 519. A command at T=1
+ *                 adds at most 512 and the bytes of the value that it stores
  * - gt_t1         629 and its limit on a response. Beyond 261 bytes the longest command takes its
  *                 bytes in place of 261; while gt_t1_begin copies it, the longest before it too
  * - a session     26,961 with that small card, for a select, a put of 3 bytes and a get; 43,339 for

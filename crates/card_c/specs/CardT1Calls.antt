@@ -1,5 +1,6 @@
 -- What the calls on a card at T=1 do to it. A refusal changes nothing.
 use Rattle.std.specs.Prelude.{◌≡◌, ◌⊎◌, ℕ, ℤ, ◌<◌, Bool, true, false, List, [], ◌++◌, take, length, Option, Some, None}
+use Rattle.apdu_core.specs.CommandBytes.{Command, IsCommand, command_bytes}
 use Rattle.t0_core.specs.CardSide.{EndOf}
 use Rattle.t0_core.specs.CardTpdu.{rests}
 use Rattle.t0_core.specs.Plan.{Cursor}

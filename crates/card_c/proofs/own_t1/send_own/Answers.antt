@@ -21,8 +21,8 @@ returns-in_default c =
           ),
     )
 
-pub returns-in-Some : goal.returns-in-Some
-returns-in-Some c =
+pub returns : goal.returns
+returns c =
     let mid = c.take_again.new.at in let room = c.args.bytes.now in let n = c.args.count.now in
     let told : ℤ = to_z w32 (of_z w32 c.block_copied.result) in (
       mid,

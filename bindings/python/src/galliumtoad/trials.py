@@ -99,7 +99,7 @@ class Run(Simulator):
     data that it sent for the last GET DATA."""
 
     def __init__(self, trial: Trial, protocol: int) -> None:
-        self.trial, self.table, self.sent = trial, Card({AID: {}, OTHER: {}}), b""
+        self.trial, self.table, self.brought = trial, Card({AID: {}, OTHER: {}}), b""
         self.struck, self.commands = list[str](), list[bytes]()
         super().__init__(self.table, ATRS[protocol], trial.read(SELECT))
         self.carried_out, self.faults.tell = self.commands.append, self.struck.append
@@ -112,16 +112,16 @@ class Run(Simulator):
     def whole(self, data: bytes, more: Optional[Callable[[], bytes]] = None) -> bytes:
         answer = super().whole(data, more)
         if data[1:2] == b"\xCA":
-            self.sent = answer[:-2]
-        elif data[1:2] == GET_RESPONSE and self.sent:
-            self.sent += answer[:-2]
+            self.brought = answer[:-2]
+        elif data[1:2] == GET_RESPONSE and self.brought:
+            self.brought += answer[:-2]
         return answer
 
     def values(self) -> tuple[bytes, bytes]:
         """The value on the card, and that of the object which the card sent."""
         sent = b""
         with contextlib.suppress(Error):
-            sent = b"".join(it.value for it in objects(self.sent)[:1])
+            sent = b"".join(it.value for it in objects(self.brought)[:1])
         return b"".join(it.value for it in self.table.entries(AID) if it.tag == TAG), sent
 
     def judge(self, status: Optional[int], output: str) -> tuple[str, str]:

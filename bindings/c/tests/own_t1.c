@@ -15,8 +15,11 @@ static uint8_t block[GT_BLOCK_LIMIT + 1];
 static size_t block_n;
 static int due, next;       /* N(S) of the terminal's next I-block, and of the card's */
 static size_t ifsd;
+/* the field of the newest I-block of a response, if the terminal may ask for it again */
+static uint8_t newest[254];
+static size_t newest_n;
 /* how often each happened, which the test shows at its end */
-static int dropped, extended, again, abandoned, too_long;
+static int dropped, extended, again, before, abandoned, too_long;
 
 /* The card gets a block with this PCB and field. */
 static void to_card(uint8_t pcb, const uint8_t *field, size_t n) {
@@ -76,6 +79,7 @@ static void none_waits(void) {
 static void begin(void) {
     due = next = 0;
     ifsd = 32;
+    newest_n = 0;
     GETS(gt_card_t1_begin(&card), GT_OK);
     CHECK(gt_card_t1_begin(&card), GT_STATE);
     CHECK(gt_card_t1_send_bytes(&card, block, sizeof block, &block_n), GT_DONE);
@@ -110,9 +114,11 @@ static void abandon(void) {
         sends(RESYNCH + ANSWER, NULL, 0);
         due = next = 0;
         ifsd = 32;
+        newest_n = 0;
     } else {
         to_card(ABORT, NULL, 0);
         sends(ABORT + ANSWER, NULL, 0);
+        newest_n = 0;
     }
     none_waits();
 }
@@ -146,6 +152,22 @@ static int extend(void) {
     return 1;
 }
 
+/* The newest I-block comes once more: the response before the command that waits. An IFSD that is
+ * shorter now cuts its field, and the terminal asks for the rest. */
+static void comes_before(void) {
+    size_t at = 0, size;
+    before++;
+    for (next ^= 1; failed == 0; at += size) {
+        size = newest_n - at < ifsd ? newest_n - at : ifsd;
+        sends(next << 6 | (at + size < newest_n ? MORE : 0), newest + at, size);
+        next ^= 1;
+        if (at + size == newest_n) break;
+        to_card((uint8_t)(READY | next << 4), NULL, 0);
+    }
+    memmove(newest, newest + at, newest_n - at);
+    newest_n -= at;
+}
+
 /* A block of the terminal drops the command that waits, which then comes again. */
 static void drop(void) {
     dropped++;
@@ -153,8 +175,10 @@ static void drop(void) {
         const int why = damaged();
         sends(READY | due << 4 | why, NULL, 0);
     } else {
-        to_card((uint8_t)(READY | any(2) << 4), NULL, 0);
-        sends(READY | due << 4 | OTHER, NULL, 0);
+        const int number = (int)any(2);
+        to_card((uint8_t)(READY | number << 4), NULL, 0);
+        if (number != next && newest_n > 0) comes_before();
+        else sends(READY | due << 4 | OTHER, NULL, 0);
     }
     none_waits();
 }
@@ -209,6 +233,7 @@ static int by_fields(const uint8_t *bytes, size_t n) {
         if (at + size == n) break;
         to_card((uint8_t)(due << 6 | MORE), bytes + at, size);
         due ^= 1;
+        newest_n = 0;
         sends(READY | due << 4, NULL, 0);
         none_waits();
         if (any(24) == 0) {
@@ -242,6 +267,8 @@ static void comes(void) {
         }
         most = sizeof out;
         next ^= 1;
+        memcpy(newest, out + at, size);
+        newest_n = size;
         at += size;
         if (at == out_n) return;
         to_card((uint8_t)(READY | next << 4), NULL, 0);
@@ -250,18 +277,20 @@ static void comes(void) {
 
 /* A chain is too long for a command, although its last field is one. The card answers alone. */
 static void long_chain(void) {
-    static const uint8_t FIELD[254], LAST[] = { 0x80, 0x2A, 0, 0, 0 }, WRONG_LENGTH[] = { 0x67, 0 };
+    static const uint8_t FIELD[254], LAST[] = { 0x80, 0x2A, 0, 0, 0 };
     size_t fields;
     for (fields = 2 + any(3); fields > 0 && failed == 0; fields--) {
         to_card((uint8_t)(due << 6 | MORE), FIELD, sizeof FIELD - any(120));
         due ^= 1;
+        newest_n = 0;
         sends(READY | due << 4, NULL, 0);
     }
     to_card((uint8_t)(due << 6), LAST, sizeof LAST);
     due ^= 1;
     none_waits();
-    sends(next << 6, WRONG_LENGTH, sizeof WRONG_LENGTH);
-    next ^= 1;
+    out_n = 0;
+    end_with(0x6700);
+    comes();
     none_waits();
     too_long++;
 }
@@ -272,7 +301,7 @@ static void one(void) {
     sent s = any_sent();
     uint8_t bytes[GT_APDU_LIMIT];
     const size_t n = apdu_of(&s, bytes);
-    const int to = goes_to_card(s.header[1]), before = asked;
+    const int to = goes_to_card(s.header[1]), was_asked = asked;
     const int reaches = is_own(s.header[1]) && !command_is_wrong(&s);
     if (any(4) == 0) ifs();
     if (any(6) == 0) long_chain();
@@ -282,7 +311,7 @@ static void one(void) {
     any_response();
     out_n = 0;
     if (!by_fields(bytes, n)) return;
-    CHECK(asked > before, reaches);
+    CHECK(asked > was_asked, reaches);
     settled |= reaches;
     none_waits();
     if (is_invalid(&s)) end_with(0x6D00);
@@ -296,5 +325,6 @@ int main(void) {
     CHECK(asked > SESSIONS / 2 && fetched > SESSIONS / 100, 1);
     CHECK(dropped > SESSIONS / 100 && abandoned > SESSIONS / 100, 1);
     CHECK(extended > SESSIONS / 100 && again > SESSIONS / 100 && too_long > SESSIONS / 100, 1);
+    CHECK(before > SESSIONS / 100, 1);
     return check_result("own_t1");
 }

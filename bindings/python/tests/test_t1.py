@@ -112,9 +112,11 @@ def test_a_fault_speaks_of_no_earlier_operation():
 @pytest.mark.parametrize("later, told", [
     ([block(0, 0, b"\x6c\x03")], UNKNOWN),
     ([block(0, 0, b"\x61\x03"), block(0, 0x90, b""), block(0, 0x40, b"\x6c\x03")], IN_PART),
+    ([block(0, 0, b"\x6c\x03"), block(0, 0x90, b""), block(0, 0x60, b"\x01")], IN_PART),
 ])
 def test_a_command_that_goes_again_may_be_carried_out(later, told):
-    """After 6CXX a card may have carried the command out, or not. After 61XX it has."""
+    """After 6CXX a card may have carried the command out, or not. After 61XX it has, and so it has
+    once a part of its response is here."""
     answers = [block(0, 0xE1, b"\xfe"), block(0, 0x90, b""), *later]
     end = T1(lambda data, waits: answers.pop(0) if answers else b"", ifsc=4)
     assert outcome(Terminal().run, end, Send(COUNT)) is told

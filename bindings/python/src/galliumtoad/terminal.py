@@ -274,16 +274,17 @@ class Terminal(Machine, Lasting):
             raise TypeError(f"{name} is neither a function nor a callable with a `level`, a Level")
         self.begin(operation)
         due, take = ("apdu", "responded") if level is Level.APDU else ("tpdu", "answered")
-        known = Outcome.NOT_CARRIED_OUT
+        seen: list[int] = []  # SW1 of each response
         try:
             while (asked := self._due(due)) is not None:
                 came, n = readable(transport(asked.data))
                 self._done(take, (came, n))
-                # 61XX announces the response of a command that the card has carried out
-                known = max(known, Outcome.IN_PART if came[n - 2] == 0x61 else Outcome.UNKNOWN)
+                seen.append(came[n - 2])
             answer = self.answer()
         except BaseException as error:
-            if isinstance(error, BlockError):
+            if isinstance(error, BlockError) and seen:
+                # 61XX announces the response of a command that the card has carried out
+                known = Outcome.IN_PART if 0x61 in seen else Outcome.UNKNOWN
                 error.outcome = max(known, error.outcome)
             self.reset()
             raise

@@ -231,23 +231,23 @@ once_more from n {peers} {more} {rest} {done} {front} {field} r s h =
         h.0,
         own,
         same_other_2 n,
-        within,
-        turn,
-        newest Terminal more,
         old,
         same_self more,
         (bytes_eq-Decides field field).1 refl,
+        within,
+        turn,
+        newest Terminal more,
       ) refl
       is Card own turn within old = rw (
         h.0,
         own,
         same_other_2 n,
-        within,
-        turn,
-        newest Card more,
         old,
         same_self more,
         (bytes_eq-Decides field field).1 refl,
+        within,
+        turn,
+        newest Card more,
       ) refl
 
       so : (more : Bool) → tells s from (role.Repetition (not more)) (Valid (I n more field))

@@ -52,8 +52,17 @@ another_after_a_missed_reset : role_behind answered Terminal (I false false sele
     ≡ role.Unknown
 another_after_a_missed_reset = refl
 
-same_after_a_missed_reset : role_behind answered Terminal (I false false select_a) ≡ role.Unknown
-same_after_a_missed_reset = refl
+-- it came late, or there was a reset: the tap can't tell
+same_again : role_behind answered Terminal (I false false select_a) ≡ role.Repetition true
+same_again = refl
+
+-- a response that comes late is in no way of the command after it
+abbrev late : List Passed
+late = (Terminal, I false false select_a) ∷ (Card, I false false ok)
+    ∷ (Terminal, I true true select_b) ∷ (Card, I false false ok) ∷ []
+
+goes_on_after_it : role_behind late Terminal (I false false ok) ≡ role.Field false true
+goes_on_after_it = refl
 
 another_more_data_bit : role_behind asked_again Terminal (I false true select_a) ≡ role.Unknown
 another_more_data_bit = refl

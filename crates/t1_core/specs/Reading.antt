@@ -97,8 +97,8 @@ abbrev pub repeats : (newest : Option Content) → (ifs : Option ℕ) → Conten
 repeats None ifs new = false
 repeats (Some old) ifs new = if is_same old new then true else is_cut ifs old.1 new
 
--- With the next N(S), and in turn, an I-block is new. With the other N(S) it is the newest of both
--- ends once more.
+-- With the next N(S), and in turn, an I-block is new. With the other N(S) it is the newest of its
+-- end once more.
 abbrev pub role_of : Reading → End → (number : Bool) → Content → Role
 role_of r from number content =
     let numbers : Numbers = numbers_of from r in
@@ -106,13 +106,19 @@ role_of r from number content =
     if r.missed then role.Unknown
     else if same number numbers.next
     then (if is_end from r.turn then role.Field (not r.within) last else role.Unknown)
-    else if cond (is_newest r from) (repeats numbers.newest numbers.ifs content) false
-    then role.Repetition last
+    else if repeats numbers.newest numbers.ifs content then role.Repetition last
     else role.Unknown
+
+-- a block that comes late does not change whose turn it is
+abbrev pub moves_on : Role → Reading → End → Bool
+moves_on (role.Repetition last) r from = is_newest r from
+moves_on known r from = true
 
 abbrev pub after_role : Role → Reading → End → (number : Bool) → Content → Reading
 after_role role.Unknown r from number content = misses r from number content
-after_role known r from number content = goes (sent r from number content) from content.0
+after_role known r from number content =
+    let now : Reading = sent r from number content in
+    cond (moves_on known r from) (goes now from content.0) now
 
 abbrev pub information : Role → Reading → End → (number : Bool) → Content → Role × Reading
 information role r from number content = (role, after_role role r from number content)

@@ -1,7 +1,7 @@
 //! What each block is in a dialogue that a tap hears.
 ghost use Rattle.std.specs.Prelude.{◌≡◌, ◌≤◌, length, true, Some};
 ghost use Rattle.t1_core.specs.Items.{IsShort, seen};
-ghost use Rattle.t1_core.specs.Reading.{after_role, confirmed, goes, is_cut, is_newest, misses, numbers_of, peer, reads, ready, repeats, rested, role_of, sent};
+ghost use Rattle.t1_core.specs.Reading.{after_role, confirmed, goes, is_cut, is_newest, misses, moves_on, numbers_of, peer, reads, ready, repeats, rested, role_of, sent};
 ghost use Rattle.t1_core.specs.Block.{other};
 
 use crate::block::{Block, Control};
@@ -24,7 +24,7 @@ pub enum Role {
     /// A new I-block: a field of a command if the terminal sent it, otherwise of a response. It may
     /// be its first, its last, or both.
     Field { first: bool, last: bool },
-    /// The newest I-block of both ends again. If a granted IFS cuts it, its field replaces the one
+    /// The newest I-block of this end again. If a granted IFS cuts it, its field replaces the one
     /// before, and is no longer the last.
     Repetition { last: bool },
     /// An R-block that acknowledges the newest I-block of a chain.
@@ -148,7 +148,7 @@ impl Reading {
             }
             return Role::Unknown;
         }
-        if self.is_newest(from) && numbers.repeats(more, field) {
+        if numbers.repeats(more, field) {
             return Role::Repetition { last };
         }
         Role::Unknown
@@ -160,15 +160,29 @@ impl Reading {
         self.within == (from == self.turn)
     }
 
+    /// Whether the turn changes after an I-block with this role, which is known.
+    fn moves_on(&self, role: Role, from: End) -> bool
+        ensures { result ≡ moves_on role self.now from }
+    {
+        match role {
+            Role::Repetition { .. } => self.is_newest(from),
+            _ => true,
+        }
+    }
+
     fn pass_field(&mut self, from: End, number: bool, more: bool, field: &[u8])
         requires { length field.now ≤ 254 }
         ensures { self.new ≡ after_role (role_of self.old from number (more, field.now))
             self.old from number (more, field.now) }
     {
-        if let Role::Unknown = self.role_of(from, number, more, field) {
+        let role = self.role_of(from, number, more, field);
+        if let Role::Unknown = role {
             self.miss(from, number, more, field);
-        } else {
-            self.note(from, number, more, field);
+            return;
+        }
+        let moves_on = self.moves_on(role, from);
+        self.note(from, number, more, field);
+        if moves_on {
             self.go_on(from, more);
         }
     }

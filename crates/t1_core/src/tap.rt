@@ -31,9 +31,9 @@ pub struct Item<'a> {
 /// its LEN puts the end, or sooner, where the other end begins. The README says how to use it.
 ///
 /// It hears what one end hears, at its connector. A role is `Unknown` if an I-block has the next
-/// N(S) out of turn, or the other one and is not the newest of both ends again: the tap has missed
-/// something, as a reset. So are those of all later I-blocks and R-blocks, until the card ends a
-/// response, with an I-block of the terminal before that.
+/// N(S) out of turn, or the other one and is no repetition: the tap has missed something, as a
+/// reset. So are those of all later I-blocks and R-blocks, until the card ends a response, with an
+/// I-block of the terminal before that.
 ///
 /// It keeps the newest I-block of each end: one that is repeated has the same bytes, or the first
 /// ones of a field that a granted IFS cuts.

@@ -273,13 +273,15 @@ class Terminal(Machine, Lasting):
             name = type(transport).__name__
             raise TypeError(f"{name} is neither a function nor a callable with a `level`, a Level")
         self.begin(operation)
-        due, take = ("apdu", "responded") if level is Level.APDU else ("tpdu", "answered")
-        seen: list[int] = []  # SW1 of each response
+        is_whole = level is Level.APDU
+        due, take = ("apdu", "responded") if is_whole else ("tpdu", "answered")
+        seen: list[int] = []  # SW1 of each response to a whole command
         try:
             while (asked := self._due(due)) is not None:
-                came, n = readable(transport(asked.data))
-                self._done(take, (came, n))
-                seen.append(came[n - 2])
+                came = readable(transport(asked.data))
+                self._done(take, came)
+                if is_whole:
+                    seen.append(came[0][came[1] - 2])
             answer = self.answer()
         except BaseException as error:
             if isinstance(error, BlockError) and seen:

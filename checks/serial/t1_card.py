@@ -122,11 +122,11 @@ def carried_out(trace):
     return log
 
 
-def from_card(trace):
-    """The valid blocks of the card in a trace."""
+def valid_blocks(trace, end):
+    """The valid blocks of an end in a trace, by its sign."""
     found = set()
     for line in trace.splitlines():
-        data = bytes.fromhex(line[2:]) if line[0] == "<" else b""
+        data = bytes.fromhex(line[2:]) if line[0] == end else b""
         while len(data) > 3:
             size = data[2] + 4
             if is_valid(data[:size]):

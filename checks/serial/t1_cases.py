@@ -562,9 +562,12 @@ def between(talk, noise, slack, stops, late=0, environment=()):
     look(card, card.end(), card.output, card_cases.GONE, 1)
     log = t1_card.carried_out(card.output)
     # Parts of two damaged blocks may make up a valid one, which no LRC reveals.
-    if t1_card.from_card(program.output) <= t1_card.from_card(card.output):
+    of_card, of_terminal = ([t1_card.valid_blocks(it.output, end) for it in (program, card)]
+                            for end in "<>")
+    if of_card[0] <= of_card[1]:
         explained.look(program.output, log, True, 99 if program.process.returncode else 0)
-    explained.look(card.output, log, False, 1)
+    if of_terminal[1] <= of_terminal[0]:
+        explained.look(card.output, log, False, 1)
     answers = [line for line in program.output.splitlines(True) if line[0] == "="]
     program.output = "".join(answers)
     return program, log

@@ -24,9 +24,9 @@ use Rattle.object_card.specs.AnswerLaws.{answers_alike}
 use Rattle.exchange_core.specs.declared.wanted.Wanted.TheVariants.{Bytes, Everything}
 use Rattle.exchange_core.specs.Gathered.{less, fetched_after}
 use Rattle.card_terminal.specs.Talk.{select_command, get_command}
-use Rattle.apdu_terminal.specs.Apdus.{Pair, Place, first_place, asking, may_bring, Goes, Ends, follow, repeated, Suits, all_content, Brings}
+use Rattle.apdu_terminal.specs.Apdus.{Pair, Place, first_place, asking, may_bring, Goes, Ends, follow, command_at, Suits, all_content, Brings}
 use Rattle.apdu_terminal.specs.CardApdu.{p3_of, tpdu_command, le_of_tpdu, IsTpduOf, InTurn, GoesAs, Responds, RespondsToAll}
-use Rattle.apdu_terminal.proofs.PlaceLemmas.{Whole, at_end, further, brings_whole}
+use Rattle.apdu_terminal.proofs.PlaceLemmas.{Whole, at_end, further, brings_whole, repeated}
 use Rattle.apdu_terminal.proofs.RestLemmas.{Reading, one_read, one_response, goes_by_fetch, told_by, waits_for, all_read, none_announced, ends_told, count_told}
 use Rattle.object_card.specs.OperationLaws.{select_is_taken, IsHeld, one_held, some_bytes, get_refused, get_corrected, get_given, get_step}
 
@@ -84,7 +84,7 @@ goes_on One reading old mid new operation at p rest status content
     let f = goes_by_fetch at next (length p.content) p.status once goes_next in
     let w = waits_for (waiting mid.pending) (less at.left (length p.content)) f.n
     (ap (λ s. fetched_after (less at.left (length p.content)) s) (sym told) ∙ f.told) in
-    let r = all_read One reading next rest status f.n mid new whole f.due w.0 w.1 goes in
+    let r = all_read One reading next rest status f.n mid new whole f.due_is w.0 w.1 goes in
     begun all after answers
     (append_assoc content (all_content rest) (waiting new.pending)
     ∙ ap (λ bs. content ++ bs) r.whole ∙ both) r.status_is
@@ -306,7 +306,7 @@ get_responds old mid tag p1 p2 p idle names due (inner, brings, goes) =
                 (all_content rest) p.status whole_q refl
                 (λ r later suits_r (u, of_u, does_u).
                 get_again next later tag value p1 p2 n r u old rests names
-                (suits_r.is_due ∙ ap (λ (x : Place). x.due) (sym here)) refl few held same of_u
+                (suits_r.is_due ∙ ap (λ (x : Place). command_at x) (sym here)) refl few held same of_u
                 does_u) others in
                 rw (sym content, empty)
                 (first_alike next old mid (Get tag) (all_content rest) p.status

@@ -8,7 +8,7 @@ use Rattle.t0_core.specs.Meaning.{Tpdu}
 use Rattle.apdu_core.specs.Shared.{get_response}
 use Rattle.apdu_terminal.specs.declared.apdu_fault.CarryFault.{CarryFault}
 use Rattle.apdu_terminal.specs.declared.apdu_fault.CarryFault.TheVariants as why
-use Rattle.apdu_terminal.specs.Apdus.{Pair, Place, first_place, Goes, Stalls, Ends, follow, GoesThrough}
+use Rattle.apdu_terminal.specs.Apdus.{Pair, Place, command_at, first_place, Goes, Stalls, Ends, follow, GoesThrough}
 use Rattle.apdu_terminal.specs.CardApdu.{GoesAs, GoesBy, HasFailed, Responds, le_of, tpdu_command}
 use Rattle.apdu_terminal.specs.TurnLaws.{turns_apart}
 use Rattle.apdu_terminal.proofs.PlaceLemmas.{Comes, again, fetch, comes}
@@ -19,7 +19,7 @@ ends_at_ok at came = refl
 
 -- a GET RESPONSE of the exchange, or a command with this header
 abbrev IsFor : Header → Place → Type 0
-IsFor h at = (at.due.header ≡ h) ⊎ (at.due.header ≡ get_response)
+IsFor h at = (at.attempt.header ≡ h) ⊎ (at.attempt.header ≡ get_response)
 
 for_next : (h : Header) (at next : Place) (came : ℕ) (status : StatusWord) → IsFor h at
     → Comes at came status next → IsFor h next
@@ -65,7 +65,7 @@ module _ {State A : Type 0} (Own : State → ℕ → Tpdu → State → Type 0) 
 
     -- the last pair decides
     last_changes : (h : Header) (at : Place) (p : Pair) (old new : State) → IsFor h at
-        → p.command ≡ at.due → GoesAs Own old p new → Changes h p.status old new
+        → p.command ≡ command_at at → GoesAs Own old p new → Changes h p.status old new
     last_changes h at p old new is due goes = by is (pair_changes old new p goes) where
       by : IsFor h at → Changes p.command.header p.status old new → Changes h p.status old new
       by is (inl same) = inl same

@@ -1,5 +1,5 @@
 -- The pairs of an exchange settle its next command, and whether it has ended. Their number.
-use Rattle.std.proofs.Common.{◌≡◌, ℕ, ◌+◌, ◌*◌, ◌≤◌, List, [], ◌∷◌, ◌++◌, length, refl, sym, ◌∙◌, ap, arith, Bool, true, false, not, ◌&&◌, ◌==◌, Some, length-append, append-nil, append_assoc, ◌⊎◌, inl, inr}
+use Rattle.std.proofs.Common.{◌≡◌, ℕ, ◌+◌, ◌-◌, ◌*◌, ◌≤◌, List, [], ◌∷◌, ◌++◌, length, refl, sym, ◌∙◌, ap, arith, Bool, true, false, not, ◌&&◌, ◌==◌, Some, length-append, append-nil, append_assoc, ◌⊎◌, inl, inr}
 use Rattle.std.proofs.lemmas.Bool.{eqb-false}
 use Rattle.std.proofs.lemmas.Grind.{flat_map-append}
 use Rattle.apdu_core.specs.StatusWord.{StatusWord}
@@ -206,12 +206,16 @@ over_at_end c wanted pairs ex gathered status led b room =
 
 -- ---- how many pairs there are
 
--- the most pairs from a place that bring `left` bytes
+-- the most pairs from a place that bring `left` bytes, after `brought` by what is repeated
 abbrev most_from : Bool → Bool → ℕ → ℕ → ℕ
 most_from true false brought left = 2 * (brought + left) + 2
 most_from true true brought left = 2 * (brought + left) + 1
 most_from false false brought left = 2 * left + 4
 most_from false true brought left = 2 * left + 3
+
+abbrev most_at : Place → ℕ → ℕ
+most_at at left =
+    most_from at.attempt.fetches at.attempt.repeats (at.gathered - at.attempt.before) left
 
 one_at_least : (fetches repeats : Bool) (brought left : ℕ)
     → 1 ≤ most_from fetches repeats brought left
@@ -220,49 +224,64 @@ one_at_least true true brought left = omega arith
 one_at_least false false brought left = omega arith
 one_at_least false true brought left = omega arith
 
-some_came : (fetches : Bool) (k : ℕ) → (fetches && (k == 0)) ≡ false → fetches ≡ true → 1 ≤ k
-some_came true k e is = omega (arith, eqb-false k 0 e)
-some_came false k e is = absurd (cc)
+-- a fetch has brought something
+some_came : (fetches : Bool) (k before : ℕ) → (fetches && (k == before)) ≡ false → before ≤ k
+    → fetches ≡ true → 1 ≤ k - before
+some_came true k before e le is = omega (arith, eqb-false k before e, le)
+some_came false k before e le is = absurd (cc)
 
 once : (may repeats : Bool) → (may && not repeats) ≡ true → repeats ≡ false
 once true false e = refl
 once true true e = absurd (cc)
 once false repeats e = absurd (cc)
 
+more_again : (fetches : Bool) (before gathered came rest : ℕ) → before ≤ gathered
+    → 1 + most_from fetches true ((gathered + came) - before) rest
+    ≤ most_from fetches false (gathered - before) (came + rest)
+more_again true before gathered came rest le = omega (arith, le)
+more_again false before gathered came rest le = omega arith
+
+more_fetched : (fetches repeats : Bool) (before gathered came rest : ℕ) → before ≤ gathered
+    → (fetches ≡ true → 1 ≤ (gathered + came) - before)
+    → 1 + most_from true false ((gathered + came) - (gathered + came)) rest
+    ≤ most_from fetches repeats (gathered - before) (came + rest)
+more_fetched true true before gathered came rest le some = omega (arith, some refl, le)
+more_fetched true false before gathered came rest le some = omega (arith, some refl, le)
+more_fetched false true before gathered came rest le some = omega arith
+more_fetched false false before gathered came rest le some = omega arith
+
+begun_on : (at next : Place) (came : ℕ) (status : StatusWord) → Comes at came status next
+    → at.attempt.before ≤ at.gathered → next.attempt.before ≤ next.gathered
+begun_on at next came status (again n may wants told is) begun = rw is (omega (arith, begun))
+begun_on at next came status (fetch n told some is) begun = rw is (omega arith)
+
 one_less : (at next : Place) (came rest : ℕ) (status : StatusWord) → Comes at came status next
-    → 1 + most_from next.fetches next.repeats next.brought rest
-    ≤ most_from at.fetches at.repeats at.brought (came + rest)
-one_less at next came rest status (again n may wants told is) =
-    rw (once _ at.repeats may, is) (by at.fetches)
-  where
-    by : (v : Bool) → 1 + most_from v true (at.brought + came) rest
-        ≤ most_from v false at.brought (came + rest)
-    by true = omega arith
-    by false = omega arith
-one_less at next came rest status (fetch n told some is) =
-    rw is (by at.fetches at.repeats (some_came at.fetches (at.brought + came) some))
-  where
-    by : (v r : Bool) → (v ≡ true → 1 ≤ at.brought + came)
-        → 1 + most_from true false 0 rest ≤ most_from v r at.brought (came + rest)
-    by true true some = omega (arith, some refl)
-    by true false some = omega (arith, some refl)
-    by false true some = omega arith
-    by false false some = omega arith
+    → at.attempt.before ≤ at.gathered → 1 + most_at next rest ≤ most_at at (came + rest)
+one_less at next came rest status (again n may wants told is) begun =
+    rw (is, once at.attempt.asks at.attempt.repeats may)
+    (more_again at.attempt.fetches at.attempt.before at.gathered came rest begun)
+one_less at next came rest status (fetch n told some is) begun =
+    rw is (more_fetched at.attempt.fetches at.attempt.repeats at.attempt.before at.gathered came
+    rest begun (some_came at.attempt.fetches (at.gathered + came) at.attempt.before some
+    (omega (arith, begun))))
 
 few_from : (at : Place) (pairs : List Pair) (status : StatusWord) → Whole at pairs status
-    → length pairs ≤ most_from at.fetches at.repeats at.brought (length (all_content pairs))
-few_from at pairs status (at_end here p suits ends) =
+    → at.attempt.before ≤ at.gathered → length pairs ≤ most_at at (length (all_content pairs))
+few_from at pairs status (at_end here p suits ends) begun =
     omega (
       arith,
-      one_at_least at.fetches at.repeats at.brought (length (all_content (p ∷ []))),
+      one_at_least at.attempt.fetches at.attempt.repeats (at.gathered - at.attempt.before)
+          (length (all_content (p ∷ []))),
     )
-few_from at pairs status (further here next p others last suits goes course) =
-    let step = one_less at next (length p.content) (length (all_content others)) p.status
-    (comes at next (length p.content) p.status goes) in
+few_from at pairs status (further here next p others last suits goes course) begun =
+    let c = comes at next (length p.content) p.status goes in
+    let step = one_less at next (length p.content) (length (all_content others)) p.status c begun in
     let same : length (all_content (p ∷ others))
     ≡ length p.content + length (all_content others) =
     length-append p.content (all_content others) in
-    rw same (omega (arith, few_from next others status course, step))
+    let rest = few_from next others status course
+    (begun_on at next (length p.content) p.status c begun) in
+    rw same (omega (arith, rest, step))
 
 -- An exchange that brings r bytes has at most 2(r + 2) pairs.
 pub few_commands : (c : Command) (wanted : Wanted) (pairs : List Pair) (gathered : List ℕ)
@@ -272,7 +291,7 @@ few_commands c wanted pairs gathered status b =
     omega (
       arith,
       few_from (first_place c wanted) pairs status
-          (brings_whole c wanted pairs gathered status b),
+          (brings_whole c wanted pairs gathered status b) (omega arith),
       ap length b.gathered_is,
     )
 

@@ -1,18 +1,16 @@
--- With a response the pairs that led to an exchange lead on: `Attempt` decides as the definitions
--- of places do.
-use Rattle.std.proofs.Common.{◌≡◌, ℕ, ◌+◌, ◌-◌, ◌≤◌, List, length, refl, sym, ◌∙◌, ap, arith, true, false, not, ◌&&◌, ◌==◌, Bool, Option, Some, None, if◌then◌else◌, eq-eqb, inl, inr, [], ◌∷◌, ◌++◌, subst, ◌⊎◌, length-append}
-use Rattle.std.proofs.lemmas.Bool.{ne_eqb, ltb-false, leb-true}
-use Rattle.std.proofs.lemmas.Bool.Decides.{eqb_tells}
-use Rattle.apdu_core.specs.StatusWord.{StatusWord, corrects}
+-- With a response the pairs that led to an exchange lead on.
+use Rattle.std.proofs.Common.{◌≡◌, ℕ, ◌+◌, ◌≤◌, List, length, refl, sym, ◌∙◌, ap, arith, true, false, ◌&&◌, ◌==◌, Bool, Option, Some, None, if◌then◌else◌, inl, inr, [], ◌∷◌, ◌++◌, subst, ◌⊎◌, length-append}
+use Rattle.std.proofs.lemmas.Bool.{ltb-false, leb-true}
+use Rattle.apdu_core.specs.StatusWord.{StatusWord}
 use Rattle.exchange_core.specs.declared.wanted.Wanted.{Wanted}
 use Rattle.exchange_core.specs.declared.wanted.Wanted.TheVariants.{Bytes, Everything}
 use Rattle.exchange_core.specs.declared.attempt.Attempt.{Attempt}
 use Rattle.exchange_core.specs.declared.attempt.Next.{Next}
 use Rattle.exchange_core.specs.declared.attempt.Next.TheVariants as next
-use Rattle.exchange_core.specs.Gathered.{less, wants_at_least, fetched_after}
-use Rattle.exchange_core.specs.Attempts.{again_with, next_by, following, fetch, repetition}
-use Rattle.apdu_terminal.specs.Apdus.{Place, asking, is_case_2, correction, Follow, Goes, Stalls, Ends, follow_by, follow, Pair, first_place, may_bring, Suits, GoesThrough, all_content, Brings, StallsAt, IsTooLong}
-use Rattle.apdu_terminal.specs.ApduSide.{ApduExchangeOf, place_of, IsSound, is_going, ComesTo, to_place, to_end, to_stall, to_fault, excess, response_fault, answered_by}
+use Rattle.exchange_core.specs.Gathered.{less}
+use Rattle.exchange_core.specs.Attempts.{next_by, following, fetch, repetition}
+use Rattle.apdu_terminal.specs.Apdus.{Place, asked, leads, Goes, follow, Pair, first_place, may_bring, Suits, GoesThrough, all_content, Brings, StallsAt, IsTooLong}
+use Rattle.apdu_terminal.specs.ApduSide.{ApduExchangeOf, place_of, is_going, ComesTo, to_place, to_end, to_stall, to_fault, excess, response_fault, answered_by}
 use Rattle.std.specs.Prelude.{nat_lt, nat_le}
 use Rattle.apdu_core.specs.CommandBytes.{Command}
 use Rattle.t0_core.specs.DialogueLaws.{flat_map_last}
@@ -26,101 +24,16 @@ less_less : (w : Wanted) (a b : ℕ) → less (less w a) b ≡ less w (a + b)
 less_less (Bytes n) a b = ap Bytes (omega arith)
 less_less Everything a b = refl
 
--- the place of an attempt, with `gathered` bytes
-abbrev place_at : Attempt → ℕ → Wanted → ℕ → Place
-place_at a n wanted gathered = record {
-  due = asking a.header n;
-  fetches = a.fetches;
-  repeats = a.repeats;
-  left = less wanted gathered;
-  brought = gathered - a.before;
-}
+-- what follows by its attempt
+abbrev pub next_of : ApduExchangeOf → ℕ → StatusWord → Next
+next_of ex gathered status = following ex.attempt gathered (less ex.wanted gathered) status
 
--- what follows, as a place
-abbrev follow_of : Wanted → ℕ → Next → Follow
-follow_of wanted gathered (next.Asks a n) = Goes (place_at a n wanted gathered)
-follow_of wanted gathered next.Stalls = Stalls
-follow_of wanted gathered next.Ends = Ends
-
-same_again : (a : Attempt) (may : Bool) (left : Wanted) (corrected : Option ℕ)
-    → may ≡ (a.asks && not a.repeats)
-    → correction may left corrected ≡ again_with a left corrected
-same_again a may left None is = refl
-same_again a may left (Some n) is = by a.asks a.repeats (wants_at_least n left) is
-  where
-    by : (asks repeats wants : Bool) → may ≡ (asks && not repeats)
-        → (if may && wants then Some n else None)
-        ≡ (if asks && not repeats && wants then Some n else None)
-    by true true wants is = rw is refl
-    by true false wants is = rw is refl
-    by false repeats wants is = rw is refl
-
-zero_same : (before gathered came : ℕ) → before ≤ gathered
-    → ((gathered - before) + came == 0) ≡ (gathered + came == before)
-zero_same before gathered came le = elim (eqb_tells ((gathered - before) + came) 0) [
-  | inl e ↦ e.0 ∙ sym (eq-eqb (gathered + came) before (omega (arith, le, e.1)))
-  | inr e ↦ e.0 ∙ sym (ne_eqb (gathered + came) before (λ same. e.1 (omega (arith, le, same))))
-]
-
-same_follow : (a : Attempt) (content : List ℕ) (le : Option ℕ) (wanted : Wanted)
-    (gathered came : ℕ) (again announced : Option ℕ) → a.before ≤ gathered
-    → follow_by (record {
-      due = record { header = a.header; content = content; le = le };
-      fetches = a.fetches;
-      repeats = a.repeats;
-      left = less wanted gathered;
-      brought = gathered - a.before;
-    }) came again announced
-    ≡ follow_of wanted (gathered + came) (next_by a (gathered + came) again announced)
-same_follow a content le wanted gathered came (Some n) announced before =
-    let left : less (less wanted gathered) came ≡ less wanted (gathered + came) =
-    less_less wanted gathered came in
-    let brought : (gathered - a.before) + came ≡ (gathered + came) - a.before =
-    omega (arith, before) in
-    rw (left, brought) refl
-same_follow a content le wanted gathered came None None before = refl
-same_follow a content le wanted gathered came None (Some n) before =
-    let left : less (less wanted gathered) came ≡ less wanted (gathered + came) =
-    less_less wanted gathered came in
-    let zero : ((gathered - a.before) + came == 0) ≡ (gathered + came == a.before) =
-    zero_same a.before gathered came before in
-    rw (left, zero) (by (a.fetches && (gathered + came == a.before)))
-  where
-    by : (v : Bool) → (if v then Stalls else Goes (record {
-      due = asking (fetch a (gathered + came)).header n;
-      fetches = true;
-      repeats = false;
-      left = less wanted (gathered + came);
-      brought = 0;
-    })) ≡ follow_of wanted (gathered + came)
-        (if v then next.Stalls else next.Asks (fetch a (gathered + came)) n)
-    by true = refl
-    by false = let none : (gathered + came) - (gathered + came) ≡ 0 = omega arith in rw none refl
-
-follows_as : (ex : ApduExchangeOf) (came : ℕ) (status : StatusWord) → IsSound ex
+follows_as : (ex : ApduExchangeOf) (came : ℕ) (status : StatusWord)
     → follow (place_of ex) came status
-    ≡ follow_of ex.wanted (length ex.gather.bytes + came)
-    (following ex.attempt (length ex.gather.bytes + came)
-    (less ex.wanted (length ex.gather.bytes + came)) status)
-follows_as ex came status sound =
-    let gathered : ℕ = length ex.gather.bytes in
-    let left : less (less ex.wanted gathered) came ≡ less ex.wanted (gathered + came) =
-    less_less ex.wanted gathered came in
-    let again : correction (is_case_2 ex.content ex.le && not ex.attempt.repeats)
-    (less (less ex.wanted gathered) came) (corrects status)
-    ≡ again_with ex.attempt (less ex.wanted (gathered + came)) (corrects status) =
-    ap (λ w. correction (is_case_2 ex.content ex.le && not ex.attempt.repeats) w
-    (corrects status)) left
-    ∙ same_again ex.attempt _ (less ex.wanted (gathered + came)) (corrects status)
-    (ap (λ v. v && not ex.attempt.repeats) (sym sound.asks)) in
-    let announced : fetched_after (less (less ex.wanted gathered) came) status
-    ≡ fetched_after (less ex.wanted (gathered + came)) status =
-    ap (λ w. fetched_after w status) left in
-    ap (λ x. follow_by (place_of ex) came x
-    (fetched_after (less (less ex.wanted gathered) came) status)) again
-    ∙ ap (λ x. follow_by (place_of ex) came
-    (again_with ex.attempt (less ex.wanted (gathered + came)) (corrects status)) x) announced
-    ∙ same_follow ex.attempt ex.content ex.le ex.wanted gathered came _ _ sound.counted.begun
+    ≡ leads (place_of ex) came (next_of ex (length ex.gather.bytes + came) status)
+follows_as ex came status =
+    ap (λ w. leads (place_of ex) came (following ex.attempt (length ex.gather.bytes + came) w status))
+    (less_less ex.wanted (length ex.gather.bytes) came)
 
 -- ---- pairs
 
@@ -248,22 +161,25 @@ after_of ex gather status (next.Asks a n) = asks_with ex gather a n
 after_of ex gather status next.Stalls = ended_as ex gather Failed
 after_of ex gather status next.Ends = ended_as ex gather (Done status)
 
--- what follows by its attempt
-abbrev pub next_of : ApduExchangeOf → ℕ → StatusWord → Next
-next_of ex gathered status = following ex.attempt gathered (less ex.wanted gathered) status
+-- the place of the next command
+asked_as : (ex : ApduExchangeOf) (gather : Room) (came : ℕ) (a : Attempt) (n : ℕ)
+    → length gather.bytes ≡ length ex.gather.bytes + came
+    → asked (place_of ex) came a n ≡ place_of (asks_with ex gather a n)
+asked_as ex gather came a n many =
+    rw (less_less ex.wanted (length ex.gather.bytes) came, many) refl
 
 pub seen_led : (c : Command) (wanted : Wanted) (pairs : List Pair) (inside seen : ApduExchangeOf)
     (content : List ℕ) (status : StatusWord) (gather : Room) (gathered : ℕ) (left : Wanted)
-    (v : Next) → inside ≡ seen → IsSound inside → response_fault seen (length content) ≡ None
+    (v : Next) → inside ≡ seen → response_fault seen (length content) ≡ None
     → gather ≡ more_room inside.gather content → gathered ≡ length gather.bytes
     → left ≡ less inside.wanted gathered → v ≡ following inside.attempt gathered left status
     → ComesTo c wanted pairs seen
     → ComesTo c wanted (pairs ++ answered_by seen content status ∷ [])
     (after_of inside gather status v)
-seen_led c wanted pairs inside seen content status gather gathered left v same sound none room
-    many left_is is led =
-    rw (sym same) (by v next_is (follows_as inside (length content) status sound
-    ∙ ap (follow_of inside.wanted (length inside.gather.bytes + length content))
+seen_led c wanted pairs inside seen content status gather gathered left v same none room many
+    left_is is led =
+    rw (sym same) (by v next_is (follows_as inside (length content) status
+    ∙ ap (leads (place_of inside) (length content))
     (ap (λ k. next_of inside k status) (sym so_many) ∙ sym next_is)))
   where
     next_is : v ≡ next_of inside gathered status
@@ -296,12 +212,13 @@ seen_led c wanted pairs inside seen content status gather gathered left v same s
 
     by : (v : Next) → v ≡ next_of inside gathered status
         → follow (place_of inside) (length content) status
-        ≡ follow_of inside.wanted (length inside.gather.bytes + length content) v
+        ≡ leads (place_of inside) (length content) v
         → ComesTo c wanted (pairs ++ p ∷ []) (after_of inside gather status v)
     by (next.Asks a n) is follows = to_place taken.going
         (goes_last (first_place c wanted) pairs (place_of inside) p
         (place_of (asks_with inside gather a n)) at.through suits
-        (follows ∙ ap (λ k. Goes (place_at a n inside.wanted k)) (sym so_many ∙ many))) bytes
+        (follows ∙ ap (λ x. Goes x)
+        (asked_as inside gather (length content) a n (sym many ∙ so_many)))) bytes
         at.wanted_is
         (omega (
           arith,

@@ -9,57 +9,75 @@ use Rattle.object_card.specs.Agreed.{IsAgreed}
 use Rattle.apdu_core.specs.Shared.{get_response}
 use Rattle.exchange_core.specs.declared.wanted.Wanted.{Wanted}
 use Rattle.exchange_core.specs.declared.wanted.Wanted.TheVariants.{Bytes, Everything}
+use Rattle.exchange_core.specs.declared.attempt.Attempt.{Attempt}
+use Rattle.exchange_core.specs.declared.attempt.Next.TheVariants as next_is
+use Rattle.exchange_core.specs.Attempts.{again_with, next_by, repetition}
+use Rattle.exchange_core.specs.Attempts as attempts
 use Rattle.exchange_core.specs.Gathered.{less, smaller, wants_some, wants_at_least, wanted_by, fetched_of, fetched_after}
-use Rattle.apdu_terminal.specs.Apdus.{Pair, Place, first_place, asking, is_case_2, may_bring, correction, Goes, Stalls, Ends, follow, follow_by, repeated, fetched, Suits, GoesThrough, all_content, Brings, IsTooLong}
+use Rattle.apdu_terminal.specs.Apdus.{Pair, Place, command_at, first_place, asking, asked, leads, is_case_2, may_bring, Goes, Ends, follow, Suits, GoesThrough, all_content, Brings, IsTooLong}
 use Rattle.apdu_terminal.specs.CardApdu.{tpdu_command, le_of}
+
+-- the command again, with the count `n`, after `came` bytes
+abbrev pub repeated : Place → ℕ → ℕ → Place
+repeated at came n = asked at came (repetition at.attempt) n
+
+-- or a GET RESPONSE for `n` bytes
+abbrev pub fetched : Place → ℕ → ℕ → Place
+fetched at came n = asked at came (attempts.fetch at.attempt (at.gathered + came)) n
+
+-- a fetch has brought nothing
+abbrev pub brought_none : Place → ℕ → Bool
+brought_none at came = at.attempt.fetches && (at.gathered + came == at.attempt.before)
 
 -- the next place: the command again, or a GET RESPONSE
 pub data Comes (at : Place) (came : ℕ) (status : StatusWord) (next : Place) : Type 0 where
-  again : (n : ℕ) → (is_case_2 at.due.content at.due.le && not at.repeats) ≡ true
+  again : (n : ℕ) → (at.attempt.asks && not at.attempt.repeats) ≡ true
       → wants_at_least n (less at.left came) ≡ true → corrects status ≡ Some n
       → next ≡ repeated at came n → Comes at came status next
   fetch : (n : ℕ) → fetched_after (less at.left came) status ≡ Some n
-      → (at.fetches && (at.brought + came == 0)) ≡ false → next ≡ fetched at came n
-      → Comes at came status next
+      → brought_none at came ≡ false → next ≡ fetched at came n → Comes at came status next
 
-is_correction : (may : Bool) (left : Wanted) (corrected : Option ℕ) (n : ℕ)
-    → correction may left corrected ≡ Some n
-    → (may ≡ true) × (wants_at_least n left ≡ true) × (corrected ≡ Some n)
-is_correction may left None n is = absurd (cc)
-is_correction true left (Some k) n is = by (wants_at_least k left) refl is
+is_correction : (a : Attempt) (left : Wanted) (corrected : Option ℕ) (n : ℕ)
+    → again_with a left corrected ≡ Some n → ((a.asks && not a.repeats) ≡ true)
+    × (wants_at_least n left ≡ true) × (corrected ≡ Some n)
+is_correction a left None n is = absurd (cc)
+is_correction a left (Some k) n is = by a.asks a.repeats (wants_at_least k left) refl is
   where
-    by : (v : Bool) → wants_at_least k left ≡ v → (if v then Some k else None) ≡ Some n
-        → (true ≡ true) × (wants_at_least n left ≡ true) × (Some k ≡ Some n)
-    by true e is =
+    by : (asks repeats v : Bool) → wants_at_least k left ≡ v
+        → (if asks && not repeats && v then Some k else None) ≡ Some n
+        → ((asks && not repeats) ≡ true) × (wants_at_least n left ≡ true) × (Some k ≡ Some n)
+    by true false true e is =
         let same : k ≡ n = cc in (refl, rw same at e, is)
-    by false e is = absurd (cc)
-is_correction false left (Some k) n is = absurd (cc)
+    by true false false e is = absurd (cc)
+    by true true v e is = absurd (cc)
+    by false repeats v e is = absurd (cc)
 
 pub comes : (at next : Place) (came : ℕ) (status : StatusWord) → follow at came status ≡ Goes next
     → Comes at came status next
 comes at next came status goes =
-    by (correction (is_case_2 at.due.content at.due.le && not at.repeats) (less at.left came)
-    (corrects status)) (fetched_after (less at.left came) status) refl refl goes
+    by (again_with at.attempt (less at.left came) (corrects status))
+    (fetched_after (less at.left came) status) refl refl goes
   where
-    by_fetch : (v : Bool) (n : ℕ) → (at.fetches && (at.brought + came == 0)) ≡ v
+    by_fetch : (v : Bool) (n : ℕ) → brought_none at came ≡ v
         → fetched_after (less at.left came) status ≡ Some n
-        → (if v then Stalls else Goes (fetched at came n)) ≡ Goes next → Comes at came status next
+        → leads at came (if v then next_is.Stalls
+        else next_is.Asks (attempts.fetch at.attempt (at.gathered + came)) n) ≡ Goes next
+        → Comes at came status next
     by_fetch true n e told is = absurd (cc)
     by_fetch false n e told is =
         let same : fetched at came n ≡ next = cc in fetch n told e (sym same)
 
     by : (once announced : Option ℕ)
-        → correction (is_case_2 at.due.content at.due.le && not at.repeats) (less at.left came)
-        (corrects status) ≡ once
+        → again_with at.attempt (less at.left came) (corrects status) ≡ once
         → fetched_after (less at.left came) status ≡ announced
-        → follow_by at came once announced ≡ Goes next → Comes at came status next
+        → leads at came (next_by at.attempt (at.gathered + came) once announced) ≡ Goes next
+        → Comes at came status next
     by (Some n) announced told is e =
         let (may, wants, corrected) =
-        is_correction _ (less at.left came) (corrects status) n told in
+        is_correction at.attempt (less at.left came) (corrects status) n told in
         let same : repeated at came n ≡ next = cc in again n may wants corrected (sym same)
     by None None told is e = absurd (cc)
-    by None (Some n) told is e =
-        by_fetch (at.fetches && (at.brought + came == 0)) n refl is e
+    by None (Some n) told is e = by_fetch (brought_none at came) n refl is e
 
 -- a whole exchange from a place on, with its status
 pub data Whole : Place → List Pair → StatusWord → Type 0 where
@@ -88,7 +106,7 @@ brings_whole c wanted pairs gathered status b =
 -- What each response keeps holds after all pairs.
 pub through : (P : ℕ → Place → Type 0)
     → ((at next : Place) (total came : ℕ) (status : StatusWord) → P total at
-    → came ≤ may_bring at.due.le → Comes at came status next → P (total + came) next)
+    → came ≤ may_bring at.le → Comes at came status next → P (total + came) next)
     → (at last : Place) (total : ℕ) (pairs : List Pair) → P total at → GoesThrough at pairs last
     → P (total + length (all_content pairs)) last
 through P step at last total [] holds is =
@@ -109,7 +127,7 @@ through P step at last total (p ∷ pairs) holds (next, suits, goes, rest) =
 pub record Fits (most total : ℕ) (at : Place) : Type 0 where
   pub left : ℕ
   pub left_is : at.left ≡ Bytes left
-  pub asks : may_bring at.due.le ≤ left
+  pub asks : may_bring at.le ≤ left
   pub within : total + left ≤ most
 
 pub fits_first : (c : Command)
@@ -136,7 +154,7 @@ least (Some m) k n is = by (nat_le 1 k) refl is
     by false e is = absurd (cc)
 
 pub fits_on : (most : ℕ) (at next : Place) (total came : ℕ) (status : StatusWord)
-    → Fits most total at → came ≤ may_bring at.due.le → Comes at came status next
+    → Fits most total at → came ≤ may_bring at.le → Comes at came status next
     → Fits most (total + came) next
 fits_on most at next total came status fits few (again n may wants told is) =
     let left : less at.left came ≡ Bytes (fits.left - came) =
@@ -190,7 +208,7 @@ never_too_long c pairs limit room long =
 
 -- a command can be sent as a TPDU: it is of case 1, 2 or 3
 abbrev pub GoesAlone : ℕ → Place → Type 0
-GoesAlone total at = (at.due.content ≡ []) ⊎ (at.due.le ≡ None)
+GoesAlone total at = (at.content ≡ []) ⊎ (at.le ≡ None)
 
 pub alone_first : (c : Command) → GoesAlone 0 (first_place (tpdu_command c) (le_of c))
 alone_first c = by c.content
@@ -201,15 +219,16 @@ alone_first c = by c.content
     by (b ∷ bs) = inr refl
 
 pub alone_on : (at next : Place) (total came : ℕ) (status : StatusWord) → GoesAlone total at
-    → came ≤ may_bring at.due.le → Comes at came status next → GoesAlone (total + came) next
+    → came ≤ may_bring at.le → Comes at came status next → GoesAlone (total + came) next
 alone_on at next total came status alone few (again n may wants told is) =
-    inl (ap (λ (x : Place). x.due.content) is)
+    inl (ap (λ (x : Place). x.content) is)
 alone_on at next total came status alone few (fetch n told some is) =
-    inl (ap (λ (x : Place). x.due.content) is)
+    inl (ap (λ (x : Place). x.content) is)
 
 -- it is agreed with the card, and so is a GET RESPONSE while something is wanted
 pub record Agrees (R S : Header → Type 0) (total : ℕ) (at : Place) : Type 0 where
-  pub agreed : IsAgreed R S at.due
+  pub agreed : IsAgreed R S (command_at at)
+  pub asks : at.attempt.asks ≡ is_case_2 at.content at.le
   pub later : wants_some at.left ≡ true → R get_response → ⊥
 
 none_later : (R S : Header → Type 0) (c : Command) (n : ℕ) → c.le ≡ Some n → IsAgreed R S c
@@ -227,7 +246,7 @@ none_later R S c n le agreed =
 -- at the terminal
 pub agrees_first : (R S : Header → Type 0) (c : Command) → IsAgreed R S c
     → Agrees R S 0 (first_place c (wanted_by c.le))
-agrees_first R S c agreed = record { agreed = agreed; later = by c.le refl }
+agrees_first R S c agreed = record { agreed = agreed; asks = refl; later = by c.le refl }
   where
     by : (le : Option ℕ) → c.le ≡ le → wants_some (wanted_by le) ≡ true → R get_response → ⊥
     by None is wants = absurd (cc)
@@ -236,7 +255,11 @@ agrees_first R S c agreed = record { agreed = agreed; later = by c.le refl }
 -- at the card
 pub agrees_as_tpdu : (R S : Header → Type 0) (c : Command) → IsAgreed R S c
     → Agrees R S 0 (first_place (tpdu_command c) (le_of c))
-agrees_as_tpdu R S c agreed = record { agreed = by c.content c.le agreed; later = later c.le refl }
+agrees_as_tpdu R S c agreed = record {
+  agreed = by c.content c.le agreed;
+  asks = refl;
+  later = later c.le refl;
+}
   where
     by : (content : List ℕ) (le : Option ℕ)
         → IsAgreed R S (record { header = c.header; content = content; le = le })
@@ -281,10 +304,12 @@ was_wanted left (Some m) n is = by (wants_some left) is
     by false is = absurd (cc)
 
 pub agrees_on : (R S : Header → Type 0) (at next : Place) (total came : ℕ) (status : StatusWord)
-    → Agrees R S total at → came ≤ may_bring at.due.le → Comes at came status next
+    → Agrees R S total at → came ≤ may_bring at.le → Comes at came status next
     → Agrees R S (total + came) next
 agrees_on R S at next total came status agrees few (again n may wants told is) = record {
-  agreed = rw is (of_case_2 R S at.due n (first_true _ (not at.repeats) may) agrees.agreed);
+  agreed = rw is (of_case_2 R S (command_at at) n
+      (sym agrees.asks ∙ first_true at.attempt.asks (not at.attempt.repeats) may) agrees.agreed);
+  asks = rw is (first_true at.attempt.asks (not at.attempt.repeats) may);
   later = λ some. agrees.later (wanted_before at.left came
       (ap (λ (x : Place). wants_some x.left) (sym is) ∙ some));
 }
@@ -294,5 +319,6 @@ agrees_on R S at next total came status agrees few (fetch n told some is) =
     (was_wanted (less at.left came) (announces status) n told)) in
     record {
       agreed = rw is (none, none);
+      asks = rw is refl;
       later = λ wants. none;
     }

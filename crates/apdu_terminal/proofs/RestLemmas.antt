@@ -1,6 +1,6 @@
 -- GET RESPONSE reads the rest of a response of a card of data objects, whether a reader fetches it
 -- or the terminal.
-use Rattle.std.proofs.Common.{◌≡◌, ℕ, ◌+◌, ◌%◌, ◌≤◌, min, List, [], ◌∷◌, ◌++◌, length, take, drop, refl, sym, ◌∙◌, ap, arith, true, false, not, ◌&&◌, ◌==◌, Bool, Option, Some, None, append-nil, append_assoc, length-append, length-drop, if◌then◌else◌}
+use Rattle.std.proofs.Common.{◌≡◌, ℕ, ◌+◌, ◌%◌, ◌≤◌, min, List, [], ◌∷◌, ◌++◌, length, take, drop, refl, sym, ◌∙◌, ap, arith, true, false, ◌==◌, Bool, Option, Some, None, append-nil, append_assoc, length-append, length-drop, if◌then◌else◌}
 use Rattle.std.specs.Prelude.{nat_le}
 use Rattle.std.proofs.lemmas.Bool.{eqb-true, eqb-false, leb-true}
 use Rattle.std.proofs.lemmas.List.{take-append-drop}
@@ -15,10 +15,12 @@ use Rattle.object_card.specs.OperationLaws.{no_correction}
 use Rattle.object_card.specs.ResponseLaws.{announces_some, count_is_some, fetched, rest_waits, rest_is_idle}
 use Rattle.exchange_core.specs.declared.wanted.Wanted.{Wanted}
 use Rattle.exchange_core.specs.declared.wanted.Wanted.TheVariants.{Bytes, Everything}
+use Rattle.exchange_core.specs.declared.attempt.Next.TheVariants as next_is
+use Rattle.exchange_core.specs.Attempts.{again_with, next_by}
+use Rattle.exchange_core.specs.Attempts as attempts
 use Rattle.exchange_core.specs.Gathered.{less, smaller, wants_some, fetched_of, fetched_after}
-use Rattle.apdu_terminal.specs.Apdus.{Pair, Place, first_place, asking, is_case_2, correction, Goes, Stalls, Ends, follow, follow_by, all_content}
-use Rattle.apdu_terminal.specs.Apdus as spec
-use Rattle.apdu_terminal.proofs.PlaceLemmas.{Whole, at_end, further, brings_whole, Comes, again, fetch, comes}
+use Rattle.apdu_terminal.specs.Apdus.{Pair, Place, command_at, first_place, asking, leads, Goes, Ends, follow, all_content}
+use Rattle.apdu_terminal.proofs.PlaceLemmas.{Whole, at_end, further, brings_whole, brought_none, Comes, again, fetch, comes}
 use Rattle.apdu_terminal.specs.CardApdu.{p3_of, InTurn, GoesAs, Responds, tpdu_command}
 
 -- ---- after a status that is not 6CXX
@@ -27,7 +29,7 @@ use Rattle.apdu_terminal.specs.CardApdu.{p3_of, InTurn, GoesAs, Responds, tpdu_c
 pub record IsFetchOf (at : Place) (came : ℕ) (status : StatusWord) (next : Place) : Type 0 where
   pub n : ℕ
   pub told : fetched_after (less at.left came) status ≡ Some n
-  pub due : next.due ≡ asking get_response n
+  pub due_is : command_at next ≡ asking get_response n
   pub left : next.left ≡ less at.left came
 
 pub goes_by_fetch : (at next : Place) (came : ℕ) (status : StatusWord) → corrects status ≡ None
@@ -39,28 +41,28 @@ goes_by_fetch at next came status none goes = by (comes at next came status goes
     by (fetch n told some is) = record {
       n = n;
       told = told;
-      due = ap (λ (x : Place). x.due) is;
+      due_is = ap (λ (x : Place). command_at x) is;
       left = ap (λ (x : Place). x.left) is;
     }
-
-ends_when : (v : Bool) (next : Place) → (if v then Stalls else Goes next) ≡ Ends → ⊥
-ends_when true next e = absurd (cc)
-ends_when false next e = absurd (cc)
 
 -- no more is
 pub ends_without_fetch : (at : Place) (came : ℕ) (status : StatusWord)
     → follow at came status ≡ Ends → fetched_after (less at.left came) status ≡ None
 ends_without_fetch at came status ends =
-    by (correction (is_case_2 at.due.content at.due.le && not at.repeats) (less at.left came)
-    (corrects status)) (fetched_after (less at.left came) status) refl ends
+    by (again_with at.attempt (less at.left came) (corrects status))
+    (fetched_after (less at.left came) status) refl ends
   where
+    by_fetch : (v : Bool) (n : ℕ) → leads at came (if v then next_is.Stalls
+        else next_is.Asks (attempts.fetch at.attempt (at.gathered + came)) n) ≡ Ends → ⊥
+    by_fetch true n e = absurd (cc)
+    by_fetch false n e = absurd (cc)
+
     by : (again announced : Option ℕ) → fetched_after (less at.left came) status ≡ announced
-        → follow_by at came again announced ≡ Ends
+        → leads at came (next_by at.attempt (at.gathered + came) again announced) ≡ Ends
         → fetched_after (less at.left came) status ≡ None
     by (Some k) announced is e = absurd (cc)
     by None None is e = is
-    by None (Some n) is e =
-        absurd (ends_when (at.fetches && (at.brought + came == 0)) (spec.fetched at came n) e)
+    by None (Some n) is e = absurd (by_fetch (brought_none at came) n e)
 
 -- a fetch is of at least one byte, and no more than announced
 pub told_by : (left : Wanted) (status : StatusWord) (n : ℕ) → fetched_after left status ≡ Some n
@@ -186,19 +188,19 @@ next_waits old new content status left n r told =
 -- it, and what is fetched after it
 pub all_read : (One : CardState → Pair → CardState → Type 0) → Reading One → (at : Place)
     (pairs : List Pair) (status : StatusWord) (k : ℕ) (old new : CardState) → Whole at pairs status
-    → at.due ≡ asking get_response k → 1 ≤ k → k ≤ length (waiting old.pending)
+    → command_at at ≡ asking get_response k → 1 ≤ k → k ≤ length (waiting old.pending)
     → InTurn One old pairs new → Reads old new (all_content pairs) status
-all_read One reading at pairs status k old new (at_end here p suits ends) due low few
+all_read One reading at pairs status k old new (at_end here p suits ends) is_due low few
     (mid, goes, stays) =
-    rw (append-nil p.content, stays) (reading k p old mid low few (suits.is_due ∙ due) goes)
+    rw (append-nil p.content, stays) (reading k p old mid low few (suits.is_due ∙ is_due) goes)
 all_read One reading at pairs status k old new (further here next p others last suits goes whole)
-    due low few (mid, is, rest) =
-    let r = reading k p old mid low few (suits.is_due ∙ due) is in
+    is_due low few (mid, is, rest) =
+    let r = reading k p old mid low few (suits.is_due ∙ is_due) is in
     let f = goes_by_fetch at next (length p.content) p.status
     (told_none old mid p.content p.status r) goes in
     let w = next_waits old mid p.content p.status (less at.left (length p.content)) f.n r f.told in
     both_read old mid new p.content (all_content others) p.status status r
-    (all_read One reading next others status f.n mid new whole f.due w.0 w.1 rest)
+    (all_read One reading next others status f.n mid new whole f.due_is w.0 w.1 rest)
 
 -- as a whole command
 pub one_response : Reading (Responds Does)

@@ -1,6 +1,6 @@
 -- No exchange of whole commands with a card of data objects fails: each GET RESPONSE brings data,
 -- and all data fit.
-use Rattle.std.proofs.Common.{◌≡◌, ℕ, ◌+◌, ◌≤◌, List, [], ◌∷◌, ◌++◌, length, refl, sym, ◌∙◌, ap, arith, Bool, true, false, ◌&&◌, ◌==◌, if◌then◌else◌, Option, Some, None, length-append, append-nil}
+use Rattle.std.proofs.Common.{◌≡◌, ℕ, ◌+◌, ◌<◌, ◌≤◌, List, [], ◌∷◌, ◌++◌, length, refl, sym, ◌∙◌, ap, arith, Bool, true, false, ◌&&◌, ◌==◌, if◌then◌else◌, Option, Some, None, length-append, append-nil}
 use Rattle.std.proofs.lemmas.Bool.{eqb-true, true≢false}
 use Rattle.apdu_core.specs.StatusWord.{StatusWord, announces, corrects}
 use Rattle.apdu_core.specs.CommandBytes.{Command}
@@ -12,8 +12,11 @@ use Rattle.apdu_core.specs.Shared.{get_response}
 use Rattle.object_card.specs.ResponseLaws.{what_is_announced_waits, corrected_brings_none, brings_within}
 use Rattle.exchange_core.specs.declared.wanted.Wanted.{Wanted}
 use Rattle.exchange_core.specs.ExchangeSide.{response_limit}
+use Rattle.exchange_core.specs.declared.attempt.Next.TheVariants as next_is
+use Rattle.exchange_core.specs.Attempts.{next_by}
+use Rattle.exchange_core.specs.Attempts as attempts
 use Rattle.exchange_core.specs.Gathered.{less}
-use Rattle.apdu_terminal.specs.Apdus.{Pair, Place, first_place, asking, Goes, Stalls, follow, follow_by, fetched, Suits, GoesThrough, all_content, StallsAt, IsTooLong}
+use Rattle.apdu_terminal.specs.Apdus.{Pair, Place, command_at, first_place, asking, leads, Goes, Stalls, follow, Suits, GoesThrough, all_content, StallsAt, IsTooLong}
 use Rattle.apdu_terminal.specs.CardApdu.{le_of, tpdu_command, InTurn, GoesAs, GoesBy, Responds, RespondsToAll}
 use Rattle.apdu_terminal.proofs.PlaceLemmas.{Comes, again, fetch, comes}
 use Rattle.apdu_terminal.proofs.RestLemmas.{Reading, in_range, one_read, one_response, told_by, told_none}
@@ -50,15 +53,17 @@ tpdus Sound = (
 -- before the first fetch there are no data.
 record Sits (Sound : Type 0) (total : ℕ) (at : Place) (s : CardState) : Type 0 where
   sound : Sound → IsCardState s
-  first : at.fetches ≡ false → total ≡ 0
-  of_fetch : at.fetches ≡ true → (n : ℕ) × (at.due ≡ asking get_response n) × (1 ≤ n)
+  begun : at.attempt.before ≤ at.gathered
+  first : at.attempt.fetches ≡ false → total ≡ 0
+  of_fetch : at.attempt.fetches ≡ true → (n : ℕ) × (command_at at ≡ asking get_response n) × (1 ≤ n)
       × (n ≤ length (waiting s.pending))
       × (Sound → total + length (waiting s.pending) ≤ VALUE_LIMIT + HEAD_LIMIT)
 
 -- a fetch brings data, and its status is not 6CXX
 abbrev FetchesSome : Place → List ℕ → StatusWord → Type 0
 FetchesSome at content status =
-    at.fetches ≡ true → (1 ≤ length content) × (corrects status ≡ None)
+    at.attempt.fetches ≡ true → (at.attempt.before < at.gathered + length content)
+    × (corrects status ≡ None)
 
 no_count : (status : StatusWord) (n : ℕ) → corrects status ≡ None → corrects status ≡ Some n → ⊥
 no_count status n none some = let e : None ≡ Some n = sym none ∙ some in absurd (cc)
@@ -67,12 +72,12 @@ after_pair : (Sound : Type 0) (One : CardState → Pair → CardState → Type 0
     → (total : ℕ) (at : Place) (p : Pair) (s new : CardState) → Sits Sound total at s → Suits at p
     → One s p new
     → Leaves Sound (total + length p.content) p.status new × FetchesSome at p.content p.status
-after_pair Sound One takes total at p s new sits suits is = by at.fetches refl
+after_pair Sound One takes total at p s new sits suits is = by at.attempt.fetches refl
   where
     l : Leaves Sound (length p.content) p.status new
     l = takes.1 p s new sits.sound is
 
-    by : (v : Bool) → at.fetches ≡ v → Leaves Sound (total + length p.content) p.status new
+    by : (v : Bool) → at.attempt.fetches ≡ v → Leaves Sound (total + length p.content) p.status new
         × FetchesSome at p.content p.status
     by false e = (
       record {
@@ -84,8 +89,8 @@ after_pair Sound One takes total at p s new sits suits is = by at.fetches refl
       λ t. absurd (true≢false (sym t ∙ e)),
     )
     by true e =
-        let (n, due, low, few, sum) = sits.of_fetch e in
-        let r = takes.0 n p s new low few (suits.is_due ∙ due) is in
+        let (n, is_due, low, few, sum) = sits.of_fetch e in
+        let r = takes.0 n p s new low few (suits.is_due ∙ is_due) is in
         let none = told_none s new p.content p.status r in (
           record {
             announced = l.announced;
@@ -98,23 +103,24 @@ after_pair Sound One takes total at p s new sits suits is = by at.fetches refl
               length-append p.content (waiting new.pending),
             );
           },
-          λ t. (r.some, none),
+          λ t. (omega (arith, sits.begun, r.some), none),
         )
 
 -- the state before the next command
 next_sits : (Sound : Type 0) (total : ℕ) (at next : Place) (content : List ℕ)
     (status : StatusWord) (new : CardState) → Leaves Sound (total + length content) status new
-    → FetchesSome at content status → follow at (length content) status ≡ Goes next
-    → Sits Sound (total + length content) next new
-next_sits Sound total at next content status new l some goes =
+    → FetchesSome at content status → at.attempt.before ≤ at.gathered
+    → follow at (length content) status ≡ Goes next → Sits Sound (total + length content) next new
+next_sits Sound total at next content status new l some begun goes =
     by (comes at next (length content) status goes)
   where
     by : Comes at (length content) status next → Sits Sound (total + length content) next new
     by (again n may wants told is) = record {
       sound = l.sound;
+      begun = rw is (omega (arith, begun));
       first = λ e. l.corrected n told;
       of_fetch = λ e.
-          let none = (some (sym (ap (λ (x : Place). x.fetches) is) ∙ e)).1 in
+          let none = (some (sym (ap (λ (x : Place). x.attempt.fetches) is) ∙ e)).1 in
           absurd (no_count status n none told);
     }
     by (fetch n told brings is) =
@@ -122,10 +128,11 @@ next_sits Sound total at next content status new l some goes =
         let waits = l.announced m announced in
         record {
           sound = l.sound;
-          first = λ e. absurd (true≢false (sym (ap (λ (x : Place). x.fetches) is) ∙ e));
+          begun = rw is (omega arith);
+          first = λ e. absurd (true≢false (sym (ap (λ (x : Place). x.attempt.fetches) is) ∙ e));
           of_fetch = λ e. (
             n,
-            ap (λ (x : Place). x.due) is,
+            ap (λ (x : Place). command_at x) is,
             low waits.0,
             omega (arith, few, waits.1),
             l.within,
@@ -146,7 +153,7 @@ last_after Sound One takes total at mid (p ∷ before) last s new sits (next, su
     suits (then_so, is, others) =
     let (l, some) = after_pair Sound One takes total at p s then_so sits suits_p is in
     let (all, last_some) = last_after Sound One takes (total + length p.content) next mid before
-    last then_so new (next_sits Sound total at next p.content p.status then_so l some goes) rest
+    last then_so new (next_sits Sound total at next p.content p.status then_so l some sits.begun goes) rest
     suits others in
     let sum : (total + length p.content) + length (all_content (before ++ last ∷ []))
     ≡ total + length (all_content (p ∷ (before ++ last ∷ []))) =
@@ -157,6 +164,7 @@ begins : (Sound : Type 0) (c : Command) (wanted : Wanted) (s : CardState)
     → (Sound → IsCardState s) → Sits Sound 0 (first_place c wanted) s
 begins Sound c wanted s sound = record {
   sound = sound;
+  begun = omega arith;
   first = λ e. refl;
   of_fetch = λ e. absurd (true≢false (sym e));
 }
@@ -174,22 +182,21 @@ commands Sound = (one_response, leaves)
         omega (arith, ap length (b.gathered_is ∙ ap all_content b.pairs_are)) in
         rw (sym all, b.status_is) l
 
-stall_when : (fetches : Bool) (k : ℕ) (next : Place)
-    → (if fetches && (k == 0) then Stalls else Goes next) ≡ Stalls → (fetches ≡ true) × (k ≡ 0)
-stall_when false k next is = absurd (cc)
-stall_when true k next is = by (k == 0) refl is
-  where
-    by : (v : Bool) → (k == 0) ≡ v → (if v then Stalls else Goes next) ≡ Stalls
-        → (true ≡ true) × (k ≡ 0)
-    by true e is = (refl, eqb-true k 0 e)
-    by false e is = absurd (cc)
-
 stalls_when : (at : Place) (came : ℕ) (again announced : Option ℕ)
-    → follow_by at came again announced ≡ Stalls → (at.fetches ≡ true) × (at.brought + came ≡ 0)
+    → leads at came (next_by at.attempt (at.gathered + came) again announced) ≡ Stalls
+    → (at.attempt.fetches ≡ true) × (at.gathered + came ≡ at.attempt.before)
 stalls_when at came (Some n) announced is = absurd (cc)
 stalls_when at came None None is = absurd (cc)
 stalls_when at came None (Some n) is =
-    stall_when at.fetches (at.brought + came) (fetched at came n) is
+    by at.attempt.fetches (at.gathered + came == at.attempt.before) refl is
+  where
+    by : (fetches v : Bool) → (at.gathered + came == at.attempt.before) ≡ v
+        → leads at came (if fetches && v then next_is.Stalls
+        else next_is.Asks (attempts.fetch at.attempt (at.gathered + came)) n) ≡ Stalls
+        → (fetches ≡ true) × (at.gathered + came ≡ at.attempt.before)
+    by true true e is = (refl, eqb-true (at.gathered + came) at.attempt.before e)
+    by true false e is = absurd (cc)
+    by false v e is = absurd (cc)
 
 stalls_never : (One : CardState → Pair → CardState → Type 0) → Takes ⊥ One → (c : Command)
     (wanted : Wanted) (pairs : List Pair) (old new : CardState) → StallsAt c wanted pairs

@@ -1,5 +1,5 @@
 -- How far an operation is carried out if it stops before its end.
-use Rattle.std.proofs.Common.{◌≡◌, ℕ, ◌==◌, ◌≤◌, List, [], ◌∷◌, ◌++◌, length, refl, sym, subst, ◌∙◌, ap, inl, inr, ◌⊎◌, true, false, arith, Some, append-nil}
+use Rattle.std.proofs.Common.{◌≡◌, ℕ, ◌==◌, List, [], ◌∷◌, ◌++◌, length, refl, sym, subst, ◌∙◌, ap, inl, inr, ◌⊎◌, true, false, arith, Some, append-nil}
 use Rattle.std.proofs.lemmas.Bool.{true≢false}
 use Rattle.apdu_core.specs.declared.header.Header.{Header}
 use Rattle.apdu_core.specs.StatusWord.{StatusWord, ok}
@@ -22,7 +22,7 @@ use Rattle.card_terminal.specs.AgreedLaws.{keeps_to}
 use Rattle.exchange_core.specs.Gathered.{wanted_by}
 use Rattle.exchange_core.specs.declared.wanted.Wanted.TheVariants.{Bytes, Everything}
 use Rattle.card_terminal.specs.Talk.{select_command, get_command}
-use Rattle.apdu_terminal.specs.Apdus.{Pair, Place, first_place, Goes, Ends, GoesThrough, GathersApdus}
+use Rattle.apdu_terminal.specs.Apdus.{Pair, Place, command_at, first_place, Goes, Ends, GoesThrough, GathersApdus}
 use Rattle.apdu_terminal.specs.ApduOperations.{AreApdusUpTo}
 use Rattle.apdu_terminal.specs.ApduSide.{place_of}
 use Rattle.apdu_terminal.specs.ApduStops.{IsDone, IsLeftAfter, IsLeftBefore, IsUnderWay}
@@ -66,17 +66,17 @@ Keeping One = (p : Pair) (old new : CardState) → IsQuiet p.command.header → 
 one_keeps : Keeping (GoesAs Does)
 one_keeps p old new q (t, is, does) = keeps old new 256 t does (rw is.header_is q)
 
-quiet_on : (at next : Place) (came : ℕ) (status : StatusWord) → IsQuiet at.due.header
-    → Comes at came status next → IsQuiet next.due.header
+quiet_on : (at next : Place) (came : ℕ) (status : StatusWord) → IsQuiet at.attempt.header
+    → Comes at came status next → IsQuiet next.attempt.header
 quiet_on at next came status q (again n may wants told is) =
     rw is q
 quiet_on at next came status q (fetch n told some is) =
     rw is (refl, refl)
 
 through_keeps : (One : CardState → Pair → CardState → Type 0) → Keeping One → (at last : Place)
-    (pairs : List Pair) (old new : CardState) → IsQuiet at.due.header
+    (pairs : List Pair) (old new : CardState) → IsQuiet at.attempt.header
     → GoesThrough at pairs last → InTurn One old pairs new
-    → SameTables old new × IsQuiet last.due.header
+    → SameTables old new × IsQuiet last.attempt.header
 through_keeps One keep at last [] old new q is goes = (
   stands_still old new goes,
   rw is q,
@@ -118,21 +118,21 @@ done_on old mid new operation (answer, after, answers, same) on =
 -- only GET RESPONSE follows a SELECT
 after_select : (aid : List ℕ) (next : Place) (came : ℕ) (status : StatusWord) → IsAid aid
     → Comes (first_place (select_command aid) Everything) came status next
-    → next.due.header ≡ get_response
+    → next.attempt.header ≡ get_response
 after_select [] next came status is c = absurd (omega (arith, is.0))
 after_select (b ∷ aid) next came status is (again n may wants told same) = absurd (cc)
 after_select (b ∷ aid) next came status is (fetch n told some same) =
-    ap (λ (x : Place). x.due.header) same
+    ap (λ (x : Place). x.attempt.header) same
 
-fetches_on : (at last : Place) (pairs : List Pair) → at.due.header ≡ get_response
-    → GoesThrough at pairs last → last.due.header ≡ get_response
-fetches_on at last [] e is = ap (λ (x : Place). x.due.header) is ∙ e
+fetches_on : (at last : Place) (pairs : List Pair) → at.attempt.header ≡ get_response
+    → GoesThrough at pairs last → last.attempt.header ≡ get_response
+fetches_on at last [] e is = ap (λ (x : Place). x.attempt.header) is ∙ e
 fetches_on at last (p ∷ pairs) e (next, suits, follows, rest) =
     fetches_on next last pairs (by (comes at next (length p.content) p.status follows)) rest
   where
-    by : Comes at (length p.content) p.status next → next.due.header ≡ get_response
-    by (again n may wants told is) = ap (λ (x : Place). x.due.header) is ∙ e
-    by (fetch n told some is) = ap (λ (x : Place). x.due.header) is
+    by : Comes at (length p.content) p.status next → next.attempt.header ≡ get_response
+    by (again n may wants told is) = ap (λ (x : Place). x.attempt.header) is ∙ e
+    by (fetch n told some is) = ap (λ (x : Place). x.attempt.header) is
 
 quiet_fetch : (h : Header) → h ≡ get_response → IsQuiet h
 quiet_fetch h e = rw e (refl, refl)
@@ -141,16 +141,16 @@ select_at : (old mid : CardState) (aid : List ℕ) (here : List Pair) (at : Plac
     → is_idle old.pending ≡ true → IsAid aid
     → GoesThrough (first_place (select_command aid) Everything) here at
     → RespondsToAll Does old here mid
-    → ((mid ≡ old) × (at.due ≡ select_command aid))
-    ⊎ (IsDone old (Select aid) mid × (at.due.header ≡ get_response))
-select_at old mid aid [] at idle is way goes = inl (goes, ap (λ (x : Place). x.due) way)
+    → ((mid ≡ old) × (command_at at ≡ select_command aid))
+    ⊎ (IsDone old (Select aid) mid × (at.attempt.header ≡ get_response))
+select_at old mid aid [] at idle is way goes = inl (goes, ap (λ (x : Place). command_at x) way)
 select_at old mid aid (p ∷ here) at idle is (next, suits, follows, rest) (then_at, one, others) =
     let first = first_place (select_command aid) Everything in
     let f = select_responds old then_at aid p idle is suits.is_due one in
     let e = after_select aid next (length p.content) p.status is
     (comes first next (length p.content) p.status follows) in
     let (same, quiet) = through_keeps (Responds Does) response_keeps next at here then_at mid
-    (quiet_fetch next.due.header e) rest others in
+    (quiet_fetch next.attempt.header e) rest others in
     inr (
       done_on old then_at mid (Select aid)
           (done_first old then_at (Select aid) p.content p.status f) same,
@@ -161,19 +161,19 @@ get_at : (old mid : CardState) (tag : List ℕ) (p1 p2 : ℕ) (here : List Pair)
     → is_idle old.pending ≡ true → NamesTag tag p1 p2
     → GoesThrough (first_place (get_command p1 p2) Everything) here at
     → RespondsToAll Does old here mid
-    → (((mid ≡ old) × (at.due ≡ get_command p1 p2)) ⊎ IsDone old (Get tag) mid)
-    × SameTables old mid × IsQuiet at.due.header
+    → (((mid ≡ old) × (command_at at ≡ get_command p1 p2)) ⊎ IsDone old (Get tag) mid)
+    × SameTables old mid × IsQuiet at.attempt.header
 get_at old mid tag p1 p2 [] at idle names way goes =
-    let e = ap (λ (x : Place). x.due) way in (
+    let e = ap (λ (x : Place). command_at x) way in (
       inl (goes, e),
       stands_still old mid goes,
-      rw e (refl, refl),
+      rw way (refl, refl),
     )
 get_at old mid tag p1 p2 (p ∷ here) at idle names (next, suits, follows, rest)
     (then_at, one, others) =
     let first = first_place (get_command p1 p2) Everything in
     let f = get_responds old then_at tag p1 p2 p idle names suits.is_due one in
-    let q : IsQuiet next.due.header = quiet_on first next (length p.content) p.status (refl, refl)
+    let q : IsQuiet next.attempt.header = quiet_on first next (length p.content) p.status (refl, refl)
     (comes first next (length p.content) p.status follows) in
     let (same, quiet) = through_keeps (Responds Does) response_keeps next at here then_at mid q rest
     others in
@@ -239,8 +239,8 @@ put_keeps p1 p2 (a ∷ b ∷ pieces) (g ∷ gone) c left old mid taken goes =
 -- nothing follows the one pair of its exchange
 alone_at : (h : Header) (piece : List ℕ) (here : List Pair) (at : Place)
     → GoesThrough (first_place (link h piece) (Bytes 0)) here at
-    → (here ≡ []) × (at.due ≡ link h piece)
-alone_at h piece [] at way = (refl, ap (λ (x : Place). x.due) way)
+    → (here ≡ []) × (command_at at ≡ link h piece)
+alone_at h piece [] at way = (refl, ap (λ (x : Place). command_at x) way)
 alone_at h piece (p ∷ here) at (next, suits, follows, rest) =
     let no : Ends ≡ Goes next = sym (ends_alone h piece (length p.content) p.status) ∙ follows in
     absurd (cc)
@@ -267,7 +267,7 @@ one_gathers h piece p old new is responds =
 
 put_due : (h : Header) (c : Command) (piece : List ℕ) (due : Command) (here : List Pair)
     (at : Place) → c ≡ link h piece → GoesThrough (first_place c (wanted_by c.le)) here at
-    → at.due ≡ due → (here ≡ []) × (due ≡ link h piece)
+    → command_at at ≡ due → (here ≡ []) × (due ≡ link h piece)
 put_due h c piece due here at is way same =
     let a = alone_at h piece here at (rw is at way) in
     (a.0, sym same ∙ a.1)
@@ -287,7 +287,7 @@ one_command c (d ∷ []) (g ∷ n ∷ gone) current left are taken = absurd take
 
 -- after these pairs of an exchange this is its next command
 abbrev At : Command → Command → List Pair → Type 0
-At c due here = (at : Place) × GoesThrough (first_place c (wanted_by c.le)) here at × (at.due ≡ due)
+At c due here = (at : Place) × GoesThrough (first_place c (wanted_by c.le)) here at × (command_at at ≡ due)
 
 stands_at : (operation : Operation) (pairs : List Pair) (due : Command)
     (u : IsUnderWay operation pairs due) → At u.led.0.current due u.led.0.here
@@ -399,8 +399,7 @@ stops_after old new operation pairs p idle u all =
         let (p1, p2, names, are) = u.are in
         let (at, way, same) = alone_under_way (Get tag) pairs p.command (get_command p1 p2) u are in
         let (which, kept, quiet) = get_at old mid tag p1 p2 pairs at idle names way goes in
-        let on = response_keeps p mid new
-        (rw same at quiet) responds in
+        let on = response_keeps p mid new (subst (λ c. IsQuiet c.header) same quiet) responds in
         let is_done : IsDone old (Get tag) new = elim which [
           | inl first ↦ done_first old new (Get tag) p.content p.status
               (get_responds old new tag p1 p2 p idle names (sym same ∙ first.1)

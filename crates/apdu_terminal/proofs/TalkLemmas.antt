@@ -1,5 +1,5 @@
 -- A put by whole commands is the put in one step, and so is each operation; operations in turn.
-use Rattle.std.proofs.Common.{◌≡◌, ℕ, ◌-◌, ◌≤◌, List, [], ◌∷◌, ◌++◌, length, Option, Some, None, true, false, ◌⊎◌, inl, inr, refl, sym, ap, subst, ◌∙◌, arith, append-nil, not, ◌&&◌}
+use Rattle.std.proofs.Common.{◌≡◌, ℕ, ◌+◌, ◌-◌, ◌≤◌, List, [], ◌∷◌, ◌++◌, length, Option, Some, None, true, ◌⊎◌, inl, inr, refl, sym, ap, subst, ◌∙◌, arith, append-nil}
 use Rattle.std.specs.List.{flat_map}
 use Rattle.apdu_core.specs.declared.header.Header.{Header}
 use Rattle.apdu_core.specs.StatusWord.{StatusWord, announces, corrects}
@@ -17,6 +17,7 @@ use Rattle.object_card.specs.CarryingOut.{put_header, IsCarriedOut, Carries, IsA
 use Rattle.object_card.specs.PutRunLaws.{chain_is_put}
 use Rattle.exchange_core.specs.declared.wanted.Wanted.{Wanted}
 use Rattle.exchange_core.specs.declared.wanted.Wanted.TheVariants.{Bytes}
+use Rattle.exchange_core.specs.Attempts.{again_with, next_by}
 use Rattle.exchange_core.specs.Gathered.{less, fetched_of, fetched_after}
 use Rattle.card_terminal.specs.Talk.{select_command, get_command}
 use Rattle.card_terminal.specs.declared.operation.Op.{Op}
@@ -24,7 +25,7 @@ use Rattle.card_terminal.specs.RunLaws.{HaveReplies, replies_come}
 use Rattle.card_terminal.specs.Running.{new_answers, carried_out}
 use Rattle.card_terminal.specs.TalkLaws.{chains_end, talks_more, all_alike}
 use Rattle.t0_core.specs.DialogueLaws.{flat_map_last}
-use Rattle.apdu_terminal.specs.Apdus.{Pair, first_place, is_case_2, correction, Goes, Ends, follow, follow_by, all_content, Brings, GathersApdus}
+use Rattle.apdu_terminal.specs.Apdus.{Pair, first_place, leads, Goes, Ends, follow, all_content, Brings, GathersApdus}
 use Rattle.apdu_terminal.specs.CardApdu.{p3_of, tpdu_command, InTurn, GoesAs, GoesBy, Responds, RespondsToAll}
 use Rattle.apdu_terminal.specs.TurnLaws.{turns_apart}
 use Rattle.apdu_terminal.specs.ApduTalk.{AreApdusOf, IsApduTalkOf, talk_pairs, AreApduTalksOf}
@@ -37,7 +38,7 @@ none_wanted k None = refl
 none_wanted k (Some n) = let e : 0 - k ≡ 0 = omega arith in rw e refl
 
 never_again : (h : Header) (content : List ℕ) (left : Wanted) (v : Option ℕ)
-    → correction (is_case_2 content None && not false) left v ≡ None
+    → again_with (first_place (link h content) (Bytes 0)).attempt left v ≡ None
 never_again h [] left None = refl
 never_again h [] left (Some n) = refl
 never_again h (b ∷ bs) left None = refl
@@ -46,10 +47,11 @@ never_again h (b ∷ bs) left (Some n) = refl
 pub ends_alone : (h : Header) (content : List ℕ) (came : ℕ) (status : StatusWord)
     → follow (first_place (link h content) (Bytes 0)) came status ≡ Ends
 ends_alone h content came status =
-    ap (λ x. follow_by (first_place (link h content) (Bytes 0)) came x
-    (fetched_after (less (Bytes 0) came) status))
+    let at = first_place (link h content) (Bytes 0) in
+    ap (λ x. leads at came (next_by at.attempt (at.gathered + came) x
+    (fetched_after (less (Bytes 0) came) status)))
     (never_again h content (less (Bytes 0) came) (corrects status))
-    ∙ ap (λ x. follow_by (first_place (link h content) (Bytes 0)) came None x)
+    ∙ ap (λ x. leads at came (next_by at.attempt (at.gathered + came) None x))
     (none_wanted came (announces status))
 
 -- its exchange is one pair

@@ -43,11 +43,11 @@ due_of ex = if is_going ex.stage then Some (command_of ex) else None
 -- the place of its next command
 abbrev pub place_of : ApduExchangeOf → Place
 place_of ex = record {
-  due = command_of ex;
-  fetches = ex.attempt.fetches;
-  repeats = ex.attempt.repeats;
+  attempt = ex.attempt;
+  content = ex.content;
+  le = ex.le;
   left = less ex.wanted (length ex.gather.bytes);
-  brought = length ex.gather.bytes - ex.attempt.before;
+  gathered = length ex.gather.bytes;
 }
 
 -- An exchange with this room has begun; or the limit is above the largest response; or it is not,

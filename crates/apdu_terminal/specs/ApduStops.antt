@@ -1,8 +1,8 @@
 -- An operation by whole commands that stops before its end: how far it is carried out.
-use Rattle.std.specs.Prelude.{◌≡◌, List, ℕ, ◌==◌, Bool, Some, true, false}
+use Rattle.std.specs.Prelude.{◌≡◌, List, ◌==◌, Some, true, false}
 use Rattle.apdu_core.specs.declared.header.Header.{Header}
 use Rattle.apdu_core.specs.CommandBytes.{Command}
-use Rattle.object_card.specs.State.{CardState, is_idle}
+use Rattle.object_card.specs.State.{CardState}
 use Rattle.apdu_core.specs.Shared.{Reply}
 use Rattle.object_card.specs.OneStep.{Operation, Answers, SameTables}
 use Rattle.object_card.specs.Refusals.{is_get_response}

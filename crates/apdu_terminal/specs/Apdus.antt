@@ -1,14 +1,18 @@
 -- The pairs of command and response of one exchange, and the data that they bring (ISO/IEC 7816-4,
 -- 5.1 and GET RESPONSE). The reader has a card at T=1 or without contacts, or fetches by itself.
 -- When a terminal sends another command is this project's profile.
-use Rattle.std.specs.Prelude.{◌≡◌, ℕ, ◌+◌, ◌≤◌, ◌<◌, List, [], ◌∷◌, ◌++◌, length, Option, Some, None, Bool, true, false, not, ◌&&◌, ◌==◌, if◌then◌else◌}
+use Rattle.std.specs.Prelude.{◌≡◌, ℕ, ◌+◌, ◌≤◌, ◌<◌, List, [], ◌∷◌, ◌++◌, length, Option, Some, None, Bool, true, false}
 use Rattle.std.specs.List.{flat_map}
 use Rattle.apdu_core.specs.declared.header.Header.{Header}
-use Rattle.apdu_core.specs.StatusWord.{StatusWord, corrects}
+use Rattle.apdu_core.specs.StatusWord.{StatusWord}
 use Rattle.apdu_core.specs.CommandBytes.{Command}
-use Rattle.apdu_core.specs.Shared.{get_response}
+use Rattle.t0_core.specs.declared.data_sent.DataSent.TheVariants.{NotKnown}
 use Rattle.exchange_core.specs.declared.wanted.Wanted.{Wanted}
-use Rattle.exchange_core.specs.Gathered.{wanted_by, less, wants_at_least, fetched_after}
+use Rattle.exchange_core.specs.declared.attempt.Attempt.{Attempt}
+use Rattle.exchange_core.specs.declared.attempt.Next.{Next}
+use Rattle.exchange_core.specs.declared.attempt.Next.TheVariants as next
+use Rattle.exchange_core.specs.Attempts.{following}
+use Rattle.exchange_core.specs.Gathered.{wanted_by, less}
 
 -- a command that was sent, and its response
 pub record Pair : Type 0 where
@@ -16,31 +20,42 @@ pub record Pair : Type 0 where
   pub content : List ℕ
   pub status : StatusWord
 
--- The place of an exchange between two pairs. `due` is the next command. `fetches`: that is a GET
--- RESPONSE of the exchange's own. `repeats`: it repeats the last command, with the count of a 6CXX.
--- `left` is how much is still wanted. `brought` is how many bytes the repeated command has brought.
+-- The place of an exchange between two pairs: that of the next command, its data and Le, how much is
+-- still wanted, and how many bytes have come.
 pub record Place : Type 0 where
-  pub due : Command
-  pub fetches : Bool
-  pub repeats : Bool
+  pub attempt : Attempt
+  pub content : List ℕ
+  pub le : Option ℕ
   pub left : Wanted
-  pub brought : ℕ
+  pub gathered : ℕ
 
--- before the first command
-abbrev pub first_place : Command → Wanted → Place
-first_place c wanted = record {
-  due = c;
-  fetches = false;
-  repeats = false;
-  left = wanted;
-  brought = 0;
-}
+-- the next command
+abbrev pub command_at : Place → Command
+command_at at = record { header = at.attempt.header; content = at.content; le = at.le }
 
 -- no data and a count: case 2
 abbrev pub is_case_2 : List ℕ → Option ℕ → Bool
 is_case_2 [] None = false
 is_case_2 [] (Some n) = true
 is_case_2 (b ∷ bs) le = false
+
+-- before the first command
+abbrev pub first_place : Command → Wanted → Place
+first_place c wanted = record {
+  attempt = record {
+    header = c.header;
+    asks = is_case_2 c.content c.le;
+    fetches = false;
+    repeats = false;
+    before = 0;
+    number = 1;
+    sent = NotKnown;
+  };
+  content = c.content;
+  le = c.le;
+  left = wanted;
+  gathered = 0;
+}
 
 -- a command with this header that asks for `n` bytes
 abbrev pub asking : Header → ℕ → Command
@@ -51,59 +66,36 @@ abbrev pub may_bring : Option ℕ → ℕ
 may_bring None = 0
 may_bring (Some n) = n
 
--- The count that a command is repeated with, if it may be: that of the 6CXX, whatever the command
--- asked for, if no more than what is still wanted.
-abbrev pub correction : Bool → Wanted → Option ℕ → Option ℕ
-correction may left None = None
-correction may left (Some n) = if may && wants_at_least n left then Some n else None
-
 -- what follows a response
 pub data Follow : Type 0 where
   Goes : (next : Place) → Follow
   Stalls : Follow
   Ends : Follow
 
--- the command again, with the count `n`, after `came` bytes
-abbrev pub repeated : Place → ℕ → ℕ → Place
-repeated at came n = record {
-  due = asking at.due.header n;
-  fetches = at.fetches;
-  repeats = true;
+-- after `came` bytes, a command that asks for `n`
+abbrev pub asked : Place → ℕ → Attempt → ℕ → Place
+asked at came a n = record {
+  attempt = a;
+  content = [];
+  le = Some n;
   left = less at.left came;
-  brought = at.brought + came;
+  gathered = at.gathered + came;
 }
 
--- or a GET RESPONSE for `n` bytes
-abbrev pub fetched : Place → ℕ → ℕ → Place
-fetched at came n = record {
-  due = asking get_response n;
-  fetches = true;
-  repeats = false;
-  left = less at.left came;
-  brought = 0;
-}
+abbrev pub leads : Place → ℕ → Next → Follow
+leads at came (next.Asks a n) = Goes (asked at came a n)
+leads at came next.Stalls = Stalls
+leads at came next.Ends = Ends
 
--- A repetition comes first, then a fetch. But no fetch follows one that has brought no data, with
--- its repetition (this project's profile).
-abbrev pub follow_by : Place → ℕ → Option ℕ → Option ℕ → Follow
-follow_by at came (Some n) announced = Goes (repeated at came n)
-follow_by at came None None = Ends
-follow_by at came None (Some n) =
-    if at.fetches && (at.brought + came == 0) then Stalls else Goes (fetched at came n)
-
--- What follows a response with `came` bytes. A command of case 2 is repeated once; what a 61XX
--- announces is fetched, as far as it is still wanted.
+-- What follows a response with `came` bytes: by the rule of TPDUs, for commands.
 abbrev pub follow : Place → ℕ → StatusWord → Follow
 follow at came status =
-    follow_by at came
-    (correction (is_case_2 at.due.content at.due.le && not at.repeats) (less at.left came)
-    (corrects status))
-    (fetched_after (less at.left came) status)
+    leads at came (following at.attempt (at.gathered + came) (less at.left came) status)
 
 -- a pair of the next command: its response has no more bytes than the command asks for
 pub record Suits (at : Place) (p : Pair) : Type 0 where
-  pub is_due : p.command ≡ at.due
-  pub asked_for : length p.content ≤ may_bring at.due.le
+  pub is_due : p.command ≡ command_at at
+  pub asked_for : length p.content ≤ may_bring at.le
 
 -- pairs in turn, which lead from place to place
 abbrev pub GoesThrough : Place → List Pair → Place → Type 0

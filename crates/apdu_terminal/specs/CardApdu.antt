@@ -17,7 +17,7 @@ use Rattle.exchange_core.specs.declared.wanted.Wanted.{Wanted}
 use Rattle.apdu_terminal.specs.declared.apdu_fault.CarryFault.{CarryFault}
 use Rattle.apdu_terminal.specs.declared.apdu_fault.CarryFault.TheVariants as why
 use Rattle.apdu_terminal.specs.declared.stage.Stage.TheVariants.{Done}
-use Rattle.apdu_terminal.specs.Apdus.{Pair, Place, first_place, may_bring, GoesThrough, Brings, StallsAt}
+use Rattle.apdu_terminal.specs.Apdus.{Pair, Place, command_at, first_place, may_bring, GoesThrough, Brings, StallsAt}
 use Rattle.apdu_terminal.specs.ApduSide.{ApduExchangeOf, ComesTo}
 
 -- P3 of the TPDU of a command of case 1, 2 or 3
@@ -113,7 +113,7 @@ HasFailed card c old why.OutOfMemory new = ⊥
 HasFailed card c old (why.Tpdu fault) new = (IsAgreed card.MayReceive card.MaySend c → ⊥)
     × ((pairs : List Pair) × (at : Place) × (mid : card.State)
     × GoesThrough (first_place (tpdu_command c) (le_of c)) pairs at
-    × GoesBy card.Does old pairs mid × StopsBy card.MayReceive card.MaySend at.due fault
+    × GoesBy card.Does old pairs mid × StopsBy card.MayReceive card.MaySend (command_at at) fault
     × (new ≡ card.after_reset mid))
 HasFailed card c old (why.Response fault) new = (fault ≡ Stalled) × ((pairs : List Pair)
     × StallsAt (tpdu_command c) (le_of c) pairs × GoesBy card.Does old pairs new)

@@ -30,7 +30,7 @@ returns-in-Asks-clause-responding g c = record {
       c.extend.ensures c.in-Asks.ensures.value;
   led = λ command wanted pairs led.
       seen_led command wanted pairs _ _ c.args.bytes.now c.args.status c.extend.new.self _ _
-      (next.Asks c.in-Asks.attempt c.in-Asks.count) c.self.view_is c.self.invariant
+      (next.Asks c.in-Asks.attempt c.in-Asks.count) c.self.view_is
       (sym c.fault.ensures ∙ c.in_default.is) c.extend.ensures
       (ap length c.bytes-gathered.ensures.value) c.less-left.ensures c.in-Asks.ensures.value led;
 }
@@ -47,7 +47,7 @@ returns-in-Ends-clause-responding g c = record {
   falls = search rules;
   led = λ command wanted pairs led.
       seen_led command wanted pairs _ _ c.args.bytes.now c.args.status c.extend.new.self _ _
-      next.Ends c.self.view_is c.self.invariant (sym c.fault.ensures ∙ c.in_default.is)
+      next.Ends c.self.view_is (sym c.fault.ensures ∙ c.in_default.is)
       c.extend.ensures (ap length c.bytes-gathered.ensures.value) c.less-left.ensures
       c.in-Ends.ensures.value led;
 }
@@ -62,7 +62,7 @@ returns-in-Stalls-clause-responding g c = record {
   falls = tt;
   led = λ command wanted pairs led final.
       seen_led command wanted pairs _ _ c.args.bytes.now c.args.status c.extend.new.self _ _
-      next.Stalls c.self.view_is c.self.invariant (sym c.fault.ensures ∙ c.in_default.is)
+      next.Stalls c.self.view_is (sym c.fault.ensures ∙ c.in_default.is)
       c.extend.ensures (ap length c.bytes-gathered.ensures.value) c.less-left.ensures
       c.in-Stalls.ensures.value led;
 }

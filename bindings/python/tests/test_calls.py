@@ -236,6 +236,53 @@ def test_data_that_have_left_and_have_not(operation, came, sent):
         assert terminal.answer().status.is_ok and terminal.data_sent() is sent
 
 
+NAME = Put(0x5F20, b"ANN")
+
+
+@pytest.mark.parametrize(
+    ("operation", "came", "name", "place", "due", "sent"),
+    [
+        (NAME, "9000DA", "GT_AFTER_END", 2, "", False),
+        (NAME, "DA9000", "GT_NOT_LISTENING", 1, "414E4E", True),
+        (NAME, "259000", "GT_NOT_LISTENING", 1, "41", False),
+        (Put(0x5F20, bytes(300)), "9000DA", "GT_NOT_LISTENING", 2, "00DA5F202D", False),
+    ],
+)
+def test_a_status_and_a_procedure_byte_at_once(operation, came, name, place, due, sent):
+    """A procedure byte after a status asks for nothing. A status after a procedure byte counts only
+    once the data of that have left."""
+    with Terminal() as terminal:
+        terminal.begin(operation)
+        terminal.send_bytes()
+        with raises(LineError, name, place):
+            terminal.receive_bytes(bytes.fromhex(came))
+        assert terminal.send_bytes().hex().upper() == due
+        if due:
+            assert terminal.answer() is None
+            terminal.receive_bytes(b"\x90\x00")
+        with raises(LineError, "GT_AFTER_END", 0):
+            terminal.receive_bytes(b"\xDA")
+        assert (terminal.answer(), terminal.data_sent()) == ((0x9000, b""), sent)
+
+
+@pytest.mark.parametrize(
+    ("answer", "name"),
+    [("9000DA", "GT_NO_STATUS"), ("DA9000", "GT_NOT_ASKED"), ("90009000", "GT_NOT_ASKED")],
+)
+@pytest.mark.parametrize(
+    ("due", "give"), [("tpdu", Terminal.answered), ("apdu", Terminal.responded)])
+def test_a_byte_beside_the_status_of_an_answer(due, give, answer, name):
+    """It is no procedure byte, and no part of the status."""
+    with Terminal() as terminal:
+        terminal.begin(NAME)
+        asked = getattr(terminal, due)()
+        with raises(TransportError, name):
+            give(terminal, bytes.fromhex(answer))
+        assert getattr(terminal, due)() == asked and terminal.answer() is None
+        give(terminal, b"\x90\x00")
+        assert terminal.answer() == (0x9000, b"")
+
+
 def test_of_whole_tpdus_and_commands_no_data_are_known():
     for give in (Exchange.answered, Exchange.responded):
         with Exchange(bytes.fromhex("00DA5F200100")) as exchange:

@@ -534,6 +534,25 @@ def test_an_application_says_whether_data_follow_what_is_forgotten():
     assert [each.hex() for each in found] == ["d69000", "9000"]
 
 
+class Works(Writes):
+    """Asks for more time once in a command, and brings 96 bytes."""
+    asks = 0
+
+    def more_time(self, command):
+        self.asks ^= 1
+        return self.asks
+
+    def carry_out(self, command):
+        return 0x9000, bytes(96)
+
+
+def test_a_status_may_end_with_the_byte_of_a_null():
+    """The line sends NULLs of its own for what an application asks, so none is here."""
+    found = said(Simulator(OwnCard(Works())), bytes.fromhex("00D6000002AABB"),
+                 bytes.fromhex("00B0000000"), bytes.fromhex("00B0000060"))
+    assert [each.hex() for each in found] == ["d66160", "6c60", "b0" + "00" * 96 + "9000"]
+
+
 def test_no_command_counts_before_since():
     it, struck = simulator("command 1, status 6F00", since=SELECT[:5] + AID)
     other = bytes.fromhex("00A4040006D2760001240100")

@@ -10,6 +10,7 @@
 - stories.cases: several TPDUs. A case begins with `case`, or with `signed` if only the signs show
   who sent what. Its other lines begin with a word, too:
   - `in`: a line of the trace; `with`: a line of the second trace for `--diff`; `$`: the words.
+    `file`: a line of the file for `--form-file`.
   - `out`: a line of the output. Rows of headers, procedure bytes, data and statuses are left out,
     except with a mask or `--diff`. Of a page only the part below its head is compared.
   - `refused`, `name` and `whole`: the lines of a GET DATA (`GETS`), as `refused #2 3` for its
@@ -38,7 +39,8 @@
   - bare.cases: commands without data whose card repeats INS.
   - unsigned.cases: lines without signs; logs.cases: logs of whole TPDUs.
   - loose.cases: headers and commands that a mask hides.
-  - forms.cases: forms of logs of many programs, said and found; commands.cases: joined TPDUs.
+  - forms.cases: forms of logs of many programs, said and found, and of files.
+  - commands.cases: joined TPDUs.
   - json.cases: objects of JSON, with the last one; blocks.cases: blocks of T=1.
   - names.cases: names of objects, and their values in words.
 
@@ -125,6 +127,7 @@ class Case:
     part: str = "all"
     secret: bytes = b""
     other: bytes = b""
+    form: bytes = b""
     time: str = ""
     is_signed: bool = False
 
@@ -502,6 +505,8 @@ def add_row(case, word, rest, part):
         case.given += bytes_of(rest)
     elif word == "with":
         case.other += rest.encode() + b"\n"
+    elif word == "file":
+        case.form += rest.encode() + b"\n"
     elif word == "out":
         case.wanted.append(rest)
     elif word == "object":
@@ -610,7 +615,7 @@ def unsigned_cases(signed):
     """The same cases without signs, except those in which only signs show who sent what."""
     for case in signed:
         words = {word for word in case.words if word.startswith("--")}
-        if case.error or words & SPEAK_OF_SIGNS or case.is_signed:
+        if case.error or words & SPEAK_OF_SIGNS or case.is_signed or case.form:
             continue
         given, other = (SIGNED.sub(rb"\1", it) for it in (case.given, case.other))
         if given != case.given and not COUNTED.search(case.given + case.other):
@@ -698,17 +703,26 @@ def some(cases):
     return list(cases)[:: 20 if os.environ.get("CHECKS_BRIEF") else 1]
 
 
+def command_of(program, case, words, folder):
+    """The program with these words. Writes the other files of the case to a folder."""
+    command = [program, *words]
+    if "--diff" in words:
+        place = command.index("--diff") + 1
+        command[place:place] = [f"{folder}/a", f"{folder}/b"]
+        Path(folder, "a").write_bytes(case.given)
+        Path(folder, "b").write_bytes(case.other)
+    if case.form:
+        command += ["--form-file", f"{folder}/form"]
+        Path(folder, "form").write_bytes(case.form)
+    return command
+
+
 def refusal(program, case, seconds=None, **names):
     """What is wrong with a program's run on a case, or an empty text. `names` are added to the
     environment."""
     with tempfile.TemporaryDirectory() as folder:
-        words = [program, *case.words]
-        if "--diff" in words:
-            place = words.index("--diff") + 1
-            words[place:place] = [f"{folder}/a", f"{folder}/b"]
-            Path(folder, "a").write_bytes(case.given)
-            Path(folder, "b").write_bytes(case.other)
-        run = subprocess.run(words, input=case.given, capture_output=True, check=False,
+        command = command_of(program, case, case.words, folder)
+        run = subprocess.run(command, input=case.given, capture_output=True, check=False,
                              timeout=seconds, env={**os.environ, **names})
     said = case.fault(run.stdout.decode(errors="replace"), run.stderr.decode(errors="replace"))
     return said or ("" if run.returncode in case.statuses() else

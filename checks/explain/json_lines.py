@@ -9,6 +9,7 @@ import json
 import re
 import subprocess
 import sys
+import tempfile
 from functools import lru_cache
 from itertools import groupby, product
 from pathlib import Path
@@ -83,8 +84,9 @@ def objects_of(program, case, words):
 def output_of(program, case, words):
     """What the program writes with these words in place of the case's own layout."""
     own = [word for word in case.words if word not in LAYOUT]
-    command = [program, *own, *words]
-    run = subprocess.run(command, input=case.given, capture_output=True, check=False)
+    with tempfile.TemporaryDirectory() as folder:
+        command = cases.command_of(program, case, [*own, *words], folder)
+        run = subprocess.run(command, input=case.given, capture_output=True, check=False)
     return run.stdout.decode()
 
 

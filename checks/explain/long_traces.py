@@ -23,6 +23,7 @@ def traces():
     yield alike()
     yield from long_logs()
     yield from heads()
+    yield cut_line()
     yield dropped_chains(16, "50 3132  application label \"12\"")
     yield dropped_chains(17, "**")
 
@@ -83,6 +84,21 @@ def heads():
         name = f"a log behind {len(notes)} lines of {len(notes[-1])} bytes"
         yield (name, [], notes + log, shown + (title if is_found else [f"| {it}" for it in log]),
                "form: C-APDU\n" if is_found else error)
+
+
+def cut_line():
+    """Two forms read two of the first 64 lines each. The next one goes beyond 1,024 bytes: of a
+    program that reads as many at once it has a part, which would be a third line of the second
+    form."""
+    first = ["C-APDU: 00CA5F2001", "R-APDU: 6A88"]
+    second = ["Command --> 00CA5F2003", "Response <-- 4A4F459000"]
+    head = [*first, *second, *["n" * 14] * 59]
+    cut = "Command --> 00CA5F2003"
+    place = 1024 - len("Command --> 00CA")
+    head.append("n" * (place - sum(len(line) + 1 for line in head) - 1))
+    notes = [f"| {line}" for line in [*head[2:], cut]]
+    wanted = ["#1 GET DATA of 5F20  (line 1)", *notes]
+    return "a line cut off", [], [*head, cut], wanted, "form: C-APDU or gpshell\n"
 
 
 def titles_of(made):

@@ -270,9 +270,11 @@ def test_a_status_and_a_procedure_byte_at_once(operation, came, name, place, due
     [("9000DA", "GT_NO_STATUS"), ("DA9000", "GT_NOT_ASKED"), ("90009000", "GT_NOT_ASKED")],
 )
 @pytest.mark.parametrize(
-    ("due", "give"), [("tpdu", Terminal.answered), ("apdu", Terminal.responded)])
-def test_a_byte_beside_the_status_of_an_answer(due, give, answer, name):
-    """It is no procedure byte, and no part of the status."""
+    ("level", "due", "give"),
+    [(Level.TPDU, "tpdu", Terminal.answered), (Level.APDU, "apdu", Terminal.responded)],
+)
+def test_a_byte_beside_the_status_of_an_answer(level, due, give, answer, name):
+    """It is no procedure byte, and no part of the status. `run` sends nothing more."""
     with Terminal() as terminal:
         terminal.begin(NAME)
         asked = getattr(terminal, due)()
@@ -281,6 +283,14 @@ def test_a_byte_beside_the_status_of_an_answer(due, give, answer, name):
         assert getattr(terminal, due)() == asked and terminal.answer() is None
         give(terminal, b"\x90\x00")
         assert terminal.answer() == (0x9000, b"")
+
+        def transport(data):
+            return left.pop(0)
+
+        left, transport.level = [bytes.fromhex(answer), b"\x90\x00"], level
+        with raises(TransportError, name):
+            terminal.run(transport, NAME)
+        assert left == [b"\x90\x00"] and terminal.answer() is None
 
 
 def test_of_whole_tpdus_and_commands_no_data_are_known():

@@ -22,12 +22,12 @@ use Rattle.command_card.specs.View.{after_reset}
 use Rattle.command_card.specs.Deeds.{GoesThrough, IsCarriedOut, IsThrough, IsWithout, Repeats, StepsBy}
 
 -- the TPDU before got no 6CXX, unless it was a GET RESPONSE
-abbrev NotSaid : Option Tpdu → Type 0
+abbrev pub NotSaid : Option Tpdu → Type 0
 NotSaid None = Unit {0}
 NotSaid (Some u) = is_fetch u.header ≡ false → corrects u.status ≡ None
 
 -- a response waits for its header again exactly if the TPDU before said so by 6CXX
-abbrev IsSaid : Left → Option Tpdu → Type 0
+abbrev pub IsSaid : Left → Option Tpdu → Type 0
 IsSaid Nothing_left before = NotSaid before
 IsSaid (For_fetch bytes status) before = NotSaid before × (corrects status ≡ None)
 IsSaid (For_repeat header bytes status) before = ((u : Tpdu) × (before ≡ Some u)
@@ -43,7 +43,7 @@ fetched_said (b ∷ bytes) status cut t own is =
     (λ other. subst (λ (s : StatusWord). corrects s ≡ None) (sym is) refl, own)
 
 -- after 6CXX the same header with that P3 finds the response
-never_repeats : (left : Left) (before : Option Tpdu) (t : Tpdu) → IsSaid left before
+pub never_repeats : (left : Left) (before : Option Tpdu) (t : Tpdu) → IsSaid left before
     → pending_for left t.header t.p3 ≡ None → is_fetch t.header ≡ false → Repeats before t → ⊥
 never_repeats left None t said none fetch repeats = repeats
 never_repeats Nothing_left (Some u) t said none fetch (header_is, corrected) =
@@ -100,7 +100,7 @@ found true it hand e = (refl, cc)
 found false it hand e = absurd (cc)
 
 -- a header of the application's own is a command
-is_command : (before : Option Tpdu) (t : Tpdu) → ins_is_valid t.header.ins ≡ true
+pub is_command : (before : Option Tpdu) (t : Tpdu) → ins_is_valid t.header.ins ≡ true
     → is_fetch t.header ≡ false → (Repeats before t → ⊥) → IsWithout before t → ⊥
 is_command before t valid fetch once (inl invalid) = absurd (true≢false (sym valid ∙ invalid))
 is_command before t valid fetch once (inr (inl fetches)) =
@@ -109,10 +109,10 @@ is_command before t valid fetch once (inr (inr repeats)) = once repeats
 
 module _ {S : Type 0} (takes : S → Header → Bool) (Act : S → Did → S → Type 0) (reset : S → S) where
   -- what one TPDU does, by what the line tells
-  record Tells (old : CardState S) (before : Option Tpdu) (t : Tpdu) (new : CardState S) : Type 0
-    where
-      steps : StepsBy takes Act before old.app t new.app
-      said : IsSaid new.left (Some t)
+  pub record Tells (old : CardState S) (before : Option Tpdu) (t : Tpdu) (new : CardState S)
+      : Type 0 where
+    pub steps : StepsBy takes Act before old.app t new.app
+    pub said : IsSaid new.left (Some t)
 
   refused_tells : (old new : CardState S) (before : Option Tpdu) (t : Tpdu) (status : StatusWord)
       → corrects status ≡ None → Answers old t new (refusing status) → IsWithout before t
@@ -171,7 +171,7 @@ module _ {S : Type 0} (takes : S → Header → Bool) (Act : S → Did → S →
             ))));
       }
 
-  tells : (old new : CardState S) (before : Option Tpdu) (cut : ℕ) (t : Tpdu) → IsCut cut
+  pub tells : (old new : CardState S) (before : Option Tpdu) (cut : ℕ) (t : Tpdu) → IsCut cut
       → IsSaid old.left before → Does takes Act old cut t new → Tells old before t new
   tells old new before cut t is_cut said does =
       by (ins_is_valid t.header.ins) (pending_for old.left t.header t.p3) (is_fetch t.header)

@@ -9,3 +9,8 @@ pub mod GatherLemmas
 pub mod BuildLemmas
 pub mod AlikeLemmas
 pub mod CaseLemmas
+pub mod LendingLemmas
+pub mod SentLemmas
+pub mod GivingLemmas
+pub mod GivenEndLemmas
+mod GivingVectors

@@ -9,3 +9,6 @@ pub mod AtT1
 pub mod Told
 pub mod Alike
 pub mod Deeds
+pub mod Lending
+pub mod Giving
+pub mod Settling

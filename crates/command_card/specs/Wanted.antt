@@ -112,6 +112,14 @@ forgotten_by c = if is_free c.ready then record c { fresh = [] } else c
 abbrev pub taken_back : CardOf GivenState → CardOf GivenState
 taken_back c = if is_free c.ready then record c { app = after_drop c.app } else c
 
+-- the data that the card waits for are those of a command of the application's own
+abbrev pub AwaitsBy : CardState GivenState → Ready → Type 0
+AwaitsBy s (ready.Receives h p3 cut) = kind_in takes_data s h p3 ≡ Takes
+AwaitsBy s other = Unit {0}
+
+abbrev pub AwaitsOwn : CardOf GivenState → Type 0
+AwaitsOwn c = AwaitsBy (standing_in at_rest c) c.ready
+
 -- What is wanted before the end's next character.
 abbrev pub IsWanted : EndOf (CardOf GivenState) → Wanted → Type 0
 IsWanted e w =

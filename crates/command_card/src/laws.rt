@@ -56,8 +56,8 @@ pub fn an_exchange_gathers_what_is_asked_for<A: Application>()
 /// response is too long gets `6F00` and has no effect; nor has a TPDU that a reset cuts off. The
 /// events are those of a `t0_core::CardEnd` over the card (its clauses `led`). They are cut into
 /// whole TPDUs, resets, and the part of a TPDU in progress. Nothing may be pending at first. It is
-/// about states in effect, not about calls. Giving a response to a `Given` is no event, so of that
-/// application it covers no history in which a response is given.
+/// about states in effect, not about calls. Giving a response to a `Given` is no event here: see
+/// `given_laws` for such histories.
 pub fn each_command_at_most_once<A: Application>()
     ensures { (first last : CardState A.State) (events : List Event)
         (prepared : Prepared (CardState A.State)) (stage : Stage) → first.left ≡ Nothing_left →

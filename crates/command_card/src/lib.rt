@@ -12,7 +12,7 @@
 //!
 //! Proved: each TPDU does what `specs/Meaning` says, whatever the terminal sends. [`laws`] says
 //! what follows: each completed command takes effect once, a terminal gathers the response, and
-//! both lines answer alike.
+//! both lines answer alike. [`given_laws`] says what becomes of each response of a [`Given`].
 #![tactic(auto)]
 
 mod answer;
@@ -22,6 +22,8 @@ mod card;
 mod copied;
 mod given;
 mod given_applet;
+pub mod given_end;
+pub mod given_laws;
 pub mod laws;
 mod own;
 mod ready;

@@ -5,9 +5,10 @@ ghost use Rattle.apdu_core.specs.CommandBytes.{IsCommand};
 ghost use Rattle.command_card.specs.declared.given.Directions.TheVariants as way;
 ghost use Rattle.t1_core.specs.declared.applet.TheConstants.{RESPONSE_ROOM};
 ghost use Rattle.command_card.specs.Given.{Gives, at_rest, settled, takes_data};
+ghost use Rattle.command_card.specs.Giving.{Decided, Gave, LeadsBy, Responded, TookBack, reaches, shown_in};
 ghost use Rattle.command_card.specs.AtT1.{Responds, may_bring};
 ghost use Rattle.command_card.specs.View.{WaitsFor, standing_in, state_of, prepared_in};
-ghost use Rattle.command_card.specs.Wanted.{IsNotTaken, IsTaken, IsWanted, RespondsAs, forgotten_by, is_free, is_known, may_decide, need_in, taken_back, wanted_as, wanted_by, wanted_for, wanted_with};
+ghost use Rattle.command_card.specs.Wanted.{AwaitsOwn, IsNotTaken, IsTaken, IsWanted, RespondsAs, forgotten_by, is_free, is_known, may_decide, need_in, taken_back, wanted_as, wanted_by, wanted_for, wanted_with};
 
 use crate::answer::{pending_for, wipe_ended, word};
 use crate::applet::{hand_out, shown, write};
@@ -103,6 +104,7 @@ impl CommandCard<Given> {
         ensures failed { OnErr result (self.new ≡ self.old) }
         ensures done { OnOk result (IsTaken self.old bytes.now status self.new) }
         ensures why { IfErr result (λ f. IsNotTaken self.old bytes.now status f) }
+        ensures awaits { AwaitsOwn self.old }
     {
         let is_open = matches!(self.ready, Ready::Nothing | Ready::Receives { .. });
         if !is_open || self.application.has_response() {
@@ -368,6 +370,25 @@ pub fn give(
     ensures failed { OnErr result (end.new.card ≡ end.old.card) }
     ensures done { OnOk result (IsTaken end.old.card bytes.now status end.new.card) }
     ensures why { IfErr result (λ f. IsNotTaken end.old.card bytes.now status f) }
+    ensures led { OnOk result ((w : Wanted) → IsWanted end.old w → LeadsBy
+        (Gave (shown_in w) (record { bytes = bytes.now; status = status })) end.old end.new) }
+{
+    lend_give(end, bytes, status)
+}
+
+/// The call of `give`, and what the card has prepared.
+fn lend_give(
+    end: &mut CardEnd<CommandCard<Given>>,
+    bytes: &[u8],
+    status: Status,
+) -> Result<(), GiveFault>
+    ensures stage { end.new.stage ≡ end.old.stage }
+    ensures prepared { prepared_in at_rest settled end.new.card
+        ≡ prepared_in at_rest settled end.old.card }
+    ensures failed { OnErr result (end.new.card ≡ end.old.card) }
+    ensures done { OnOk result (IsTaken end.old.card bytes.now status end.new.card) }
+    ensures why { IfErr result (λ f. IsNotTaken end.old.card bytes.now status f) }
+    ensures awaits { AwaitsOwn end.old.card }
 {
     end.with_card(|card| card.give(bytes, status))
 }
@@ -375,6 +396,21 @@ pub fn give(
 /// States which way the data of the next header go (`CommandCard::decide`).
 pub fn decide(end: &mut CardEnd<CommandCard<Given>>, to_card: bool) -> bool
     ensures stage { end.new.stage ≡ end.old.stage }
+    ensures when { result ≡ may_decide end.old.card }
+    ensures failed { result ≡ false → end.new.card ≡ end.old.card }
+    ensures done { result ≡ true → end.new.card ≡ record end.old.card {
+      app = record end.old.card.app { directions = way.Known to_card };
+    } }
+    ensures led { result ≡ true → LeadsBy (Decided to_card) end.old end.new }
+{
+    lend_decide(end, to_card)
+}
+
+/// The call of `decide`, and what the card has prepared.
+fn lend_decide(end: &mut CardEnd<CommandCard<Given>>, to_card: bool) -> bool
+    ensures stage { end.new.stage ≡ end.old.stage }
+    ensures prepared { prepared_in at_rest settled end.new.card
+        ≡ prepared_in at_rest settled end.old.card }
     ensures when { result ≡ may_decide end.old.card }
     ensures failed { result ≡ false → end.new.card ≡ end.old.card }
     ensures done { result ≡ true → end.new.card ≡ record end.old.card {
@@ -388,6 +424,17 @@ pub fn decide(end: &mut CardEnd<CommandCard<Given>>, to_card: bool) -> bool
 pub fn take_back(end: &mut CardEnd<CommandCard<Given>>)
     ensures stage { end.new.stage ≡ end.old.stage }
     ensures done { end.new.card ≡ taken_back end.old.card }
+    ensures led { is_free end.old.card.ready ≡ true → LeadsBy TookBack end.old end.new }
+{
+    lend_take_back(end);
+}
+
+/// The call of `take_back`, and what the card has prepared.
+fn lend_take_back(end: &mut CardEnd<CommandCard<Given>>)
+    ensures stage { end.new.stage ≡ end.old.stage }
+    ensures prepared { prepared_in at_rest settled end.new.card
+        ≡ prepared_in at_rest settled end.old.card }
+    ensures done { end.new.card ≡ taken_back end.old.card }
 {
     end.with_card(|card| card.take_back())
 }
@@ -397,6 +444,35 @@ pub fn take_back(end: &mut CardEnd<CommandCard<Given>>)
 /// # Errors
 /// - `AllocError`: as there; nothing is carried out.
 pub fn respond_to(
+    end: &mut CardEnd<CommandCard<Given>>,
+    header: Header,
+    bytes: &[u8],
+    le: Option<u16>,
+) -> Result<(), AllocError>
+    ensures stage { end.new.stage ≡ end.old.stage }
+    ensures prepared { prepared_in at_rest settled end.new.card
+        ≡ prepared_in at_rest settled end.old.card }
+    ensures failed { OnErr result (end.new.card ≡ forgotten_by end.old.card) }
+    ensures done { OnOk result (RespondsAs
+        (standing_in at_rest end.old.card)
+        (record { header = header; content = bytes.now; le = le }) end.new.card.fresh
+        (standing_in at_rest end.new.card)) }
+    ensures whole { OnOk result
+        (IsCommand (record { header = header; content = bytes.now; le = le })) }
+    ensures free { OnOk result ((is_free end.old.card.ready ≡ true)
+        × (end.new.card.ready ≡ end.old.card.ready)) }
+    ensures short { OnOk result (length end.new.card.fresh ≤ may_bring le + 2) }
+    ensures led { OnOk result (LeadsBy (Responded
+        (record { header = header; content = bytes.now; le = le })
+        (reaches (standing_in at_rest end.old.card)
+        (record { header = header; content = bytes.now; le = le })) end.new.card.fresh)
+        end.old end.new) }
+{
+    lend_respond(end, header, bytes, le)
+}
+
+/// The call of `respond`.
+fn lend_respond(
     end: &mut CardEnd<CommandCard<Given>>,
     header: Header,
     bytes: &[u8],

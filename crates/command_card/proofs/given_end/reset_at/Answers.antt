@@ -1,0 +1,15 @@
+use Rattle.t0_core.specs.History.{Reset}
+use Rattle.command_card.specs.Given.{at_rest, settled}
+use Rattle.command_card.specs.View.{prepared_in, standing_in}
+use Rattle.command_card.proofs.given_end.reset_at.Goals as goal
+
+pub returns : goal.returns
+returns c =
+    let old = c.args.end.now in
+    let new = c.reset.new.self in
+    record {
+      led = λ first hs bytes lent. c.the_line_leads_on_after_lending.ensures.line first
+          (standing_in at_rest old.card) (standing_in at_rest new.card) hs Reset
+          (prepared_in at_rest settled old.card) (prepared_in at_rest settled new.card) old.stage
+          new.stage bytes c.reset.ensures.led lent;
+    }

@@ -3,7 +3,7 @@ use Rattle.std.proofs.Common.{◌≡◌, ◌∙◌, ℕ, List, [], ◌∷◌, �
 use Rattle.apdu_core.specs.declared.header.Header.{Header}
 use Rattle.apdu_core.specs.CommandBytes.{Command}
 use Rattle.apdu_core.specs.StatusWord.{StatusWord, count}
-use Rattle.std.specs.Prelude.{◌&&◌, ⊤, not, if◌then◌else◌, OnOk, Result, Ok, Err}
+use Rattle.std.specs.Prelude.{◌&&◌, ⊤, not, if◌then◌else◌, OnErr, OnOk, Result, Ok, Err}
 use Rattle.command_card.specs.declared.own.GiveFault.{GiveFault}
 use Rattle.t0_core.specs.CardContract.{IsDecided}
 use Rattle.t0_core.specs.declared.end.End.TheVariants.{Terminal}
@@ -27,16 +27,17 @@ use Rattle.command_card.proofs.AnswerLemmas.{both_true}
 use Rattle.command_card.specs.Carrying.{asking, taking}
 use Rattle.command_card.specs.declared.given.Directions.{Directions}
 use Rattle.command_card.specs.Given.{Answers, GivenState, after_drop, at_rest, go_to_card, settled, takes_data}
-use Rattle.command_card.specs.Giving.{Decided, Gave, Giving, LeadsBy, Lends, Responded, Shows, Tells, TookBack, reaches, shown_in}
+use Rattle.command_card.specs.Giving.{Decided, Gave, Giving, LeadsBy, LeadsStill, Lends, Responded, Shows, Tells, TookBack, reaches, shown_in}
 use Rattle.command_card.specs.Lending.{LeadsLent, Lent}
 use Rattle.command_card.specs.Meaning.{Does, Kind, Invalid, Hands, Unfetched, Takes, Asks, kind_in, kind_of}
 use Rattle.command_card.specs.State.{CardState, Hand, is_fetch, pending_for}
 use Rattle.command_card.specs.View.{CardOf, ask_of, after_reset, prepared_in, prepared_of, standing_in}
-use Rattle.command_card.specs.Wanted.{AwaitsBy, AwaitsOwn, IsTaken, RespondsAs, IsWanted, need_of, wanted_after, wanted_at, wanted_with, is_free, is_known, is_open, may_decide, taken_back}
+use Rattle.command_card.specs.Wanted.{forgotten_by, AwaitsBy, AwaitsOwn, IsTaken, RespondsAs, IsWanted, need_of, wanted_after, wanted_at, wanted_with, is_free, is_known, is_open, may_decide, taken_back}
 use Rattle.command_card.specs.declared.given.Directions.TheVariants as way
 use Rattle.command_card.specs.declared.ready.Ready.{Ready}
 use Rattle.command_card.specs.declared.ready.Ready.TheVariants as ready
 use Rattle.command_card.proofs.LendingLemmas.{leads_where_lent}
+use Rattle.command_card.proofs.AppletLemmas.{forgotten_stands}
 use Rattle.command_card.proofs.SentLemmas.{same_header}
 
 abbrev OwnEnd : Type 0
@@ -371,6 +372,43 @@ pub responds_if : {E : Type 0} (result : Result ⊤ E) (old new : OwnEnd) (c : C
 responds_if (Ok r) old new c stage prepared free does =
     responds_on old new c stage prepared free.0 does
 responds_if (Err e) old new c stage prepared free does = tt
+
+-- ---- calls that leave the card's state
+
+pub leads_still : (old new : OwnEnd) → new.stage ≡ old.stage
+    → standing_in at_rest new.card ≡ standing_in at_rest old.card
+    → prepared_in at_rest settled new.card ≡ prepared_in at_rest settled old.card
+    → LeadsStill old new
+leads_still old new stage stands prepared first hs led =
+    let At : CardState GivenState → Prepared (CardState GivenState) → Stage → Type 0 = λ s p t.
+    LeadsLent (Does takes_data Answers) (after_reset after_drop) Lends first hs s p t in
+    subst (λ t. At (standing_in at_rest new.card) (prepared_in at_rest settled new.card) t)
+    (sym stage) (subst (λ p. At (standing_in at_rest new.card) p old.stage) (sym prepared)
+    (subst (λ s. At s (prepared_in at_rest settled old.card) old.stage) (sym stands) led))
+
+pub same_card_still : (old new : OwnEnd) → new.stage ≡ old.stage → new.card ≡ old.card
+    → LeadsStill old new
+same_card_still old new stage is = leads_still old new stage (ap (standing_in at_rest) is)
+    (ap (prepared_in at_rest settled) is)
+
+pub gives_still : {R E : Type 0} (result : Result R E) (old new : OwnEnd)
+    → new.stage ≡ old.stage → OnErr result (new.card ≡ old.card)
+    → OnErr result (LeadsStill old new)
+gives_still (Ok r) old new stage is = tt
+gives_still (Err f) old new stage is = same_card_still old new stage is
+
+pub responds_still : {R E : Type 0} (result : Result R E) (old new : OwnEnd)
+    → new.stage ≡ old.stage
+    → prepared_in at_rest settled new.card ≡ prepared_in at_rest settled old.card
+    → OnErr result (new.card ≡ forgotten_by old.card) → OnErr result (LeadsStill old new)
+responds_still (Ok r) old new stage prepared is = tt
+responds_still (Err f) old new stage prepared is = leads_still old new stage
+    (ap (standing_in at_rest) is ∙ forgotten_stands old.card) prepared
+
+pub takes_back_still : (old new : OwnEnd) → new.stage ≡ old.stage
+    → is_free old.card.ready ≡ false → new.card ≡ taken_back old.card → LeadsStill old new
+takes_back_still old new stage busy is = same_card_still old new stage
+    (is ∙ ap (λ v. if v then record old.card { app = after_drop old.card.app } else old.card) busy)
 
 -- what holds of each history where a call succeeds holds of all at once
 pub within : {A B R E : Type 0} (P Q : A → B → Type 0) (r : Result R E)

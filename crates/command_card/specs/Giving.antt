@@ -78,3 +78,8 @@ shown_in (wanted.Direction h) = None
 abbrev pub LeadsBy : Giving → EndOf (CardOf GivenState) → EndOf (CardOf GivenState) → Type 0
 LeadsBy k old new = (first : CardState GivenState) (happenings : List (Happening Giving))
     → LedLent first happenings old → LedLent first (happenings ++ Lent k ∷ []) new
+
+-- nothing was done to the card of an end, and what led there still leads there
+abbrev pub LeadsStill : EndOf (CardOf GivenState) → EndOf (CardOf GivenState) → Type 0
+LeadsStill old new = (first : CardState GivenState) (happenings : List (Happening Giving))
+    → LedLent first happenings old → LedLent first happenings new

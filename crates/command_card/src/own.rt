@@ -5,7 +5,7 @@ ghost use Rattle.apdu_core.specs.CommandBytes.{IsCommand};
 ghost use Rattle.command_card.specs.declared.given.Directions.TheVariants as way;
 ghost use Rattle.t1_core.specs.declared.applet.TheConstants.{RESPONSE_ROOM};
 ghost use Rattle.command_card.specs.Given.{Gives, at_rest, settled, takes_data};
-ghost use Rattle.command_card.specs.Giving.{Decided, Gave, LeadsBy, Responded, TookBack, reaches, shown_in};
+ghost use Rattle.command_card.specs.Giving.{Decided, Gave, LeadsBy, LeadsStill, Responded, TookBack, reaches, shown_in};
 ghost use Rattle.command_card.specs.AtT1.{Responds, may_bring};
 ghost use Rattle.command_card.specs.View.{WaitsFor, standing_in, state_of, prepared_in};
 ghost use Rattle.command_card.specs.Wanted.{AwaitsOwn, IsNotTaken, IsTaken, IsWanted, RespondsAs, forgotten_by, is_free, is_known, may_decide, need_in, taken_back, wanted_as, wanted_by, wanted_for, wanted_with};
@@ -372,6 +372,7 @@ pub fn give(
     ensures why { IfErr result (λ f. IsNotTaken end.old.card bytes.now status f) }
     ensures led { OnOk result ((w : Wanted) → IsWanted end.old w → LeadsBy
         (Gave (shown_in w) (record { bytes = bytes.now; status = status })) end.old end.new) }
+    ensures still { OnErr result (LeadsStill end.old end.new) }
 {
     lend_give(end, bytes, status)
 }
@@ -402,6 +403,7 @@ pub fn decide(end: &mut CardEnd<CommandCard<Given>>, to_card: bool) -> bool
       app = record end.old.card.app { directions = way.Known to_card };
     } }
     ensures led { result ≡ true → LeadsBy (Decided to_card) end.old end.new }
+    ensures still { result ≡ false → LeadsStill end.old end.new }
 {
     lend_decide(end, to_card)
 }
@@ -425,6 +427,7 @@ pub fn take_back(end: &mut CardEnd<CommandCard<Given>>)
     ensures stage { end.new.stage ≡ end.old.stage }
     ensures done { end.new.card ≡ taken_back end.old.card }
     ensures led { is_free end.old.card.ready ≡ true → LeadsBy TookBack end.old end.new }
+    ensures still { is_free end.old.card.ready ≡ false → LeadsStill end.old end.new }
 {
     lend_take_back(end);
 }
@@ -467,6 +470,7 @@ pub fn respond_to(
         (reaches (standing_in at_rest end.old.card)
         (record { header = header; content = bytes.now; le = le })) end.new.card.fresh)
         end.old end.new) }
+    ensures still { OnErr result (LeadsStill end.old end.new) }
 {
     lend_respond(end, header, bytes, le)
 }
@@ -498,6 +502,18 @@ fn lend_respond(
 /// Drops what the card answered to the last whole command (`CommandCard::forget`).
 pub fn forget(end: &mut CardEnd<CommandCard<Given>>)
     ensures stage { end.new.stage ≡ end.old.stage }
+    ensures stands { standing_in at_rest end.new.card ≡ standing_in at_rest end.old.card }
+    ensures done { end.new.card ≡ forgotten_by end.old.card }
+    ensures still { LeadsStill end.old end.new }
+{
+    lend_forget(end);
+}
+
+/// The call of `forget`, and what the card has prepared.
+fn lend_forget(end: &mut CardEnd<CommandCard<Given>>)
+    ensures stage { end.new.stage ≡ end.old.stage }
+    ensures prepared { prepared_in at_rest settled end.new.card
+        ≡ prepared_in at_rest settled end.old.card }
     ensures stands { standing_in at_rest end.new.card ≡ standing_in at_rest end.old.card }
     ensures done { end.new.card ≡ forgotten_by end.old.card }
 {

@@ -18,9 +18,9 @@ use Rattle.apdu_core.specs.HeaderBytes.{ins_is_valid}
 use Rattle.command_card.specs.Carrying.{asking, taking, Did, IsTooLong, Makes, out_of_memory}
 use Rattle.command_card.specs.Deeds.{IsCarriedOut, IsWithout, StepsBy, command_in, outcome_in}
 use Rattle.command_card.specs.declared.given.Directions.{Directions}
-use Rattle.command_card.specs.Given.{Answers, GivenState, Gives, IsGiven, without_answer, after_drop, go_to_card, takes_data}
+use Rattle.command_card.specs.Given.{Answers, GivenState, Gives, IsGiven, after_drop, go_to_card, settled, takes_data, without_answer}
 use Rattle.command_card.specs.Giving.{Decided, Gave, Giving, Lends, Responded, Shows, Tells, TookBack}
-use Rattle.command_card.specs.Settling.{AnswersBy, AreAllowed, AreMet, GoesOutWhole, ComesOf, Held, IsAllowed, IsAnswered, IsFor, IsMet, IsUnanswered, IsUnshown, Settled, answer_in, before_after, before_by, forgetting, held_after, held_by, settled_amid, settles, tpdu_before}
+use Rattle.command_card.specs.Settling.{AnswersBy, AreAllowed, AreMet, ComesOf, Empty, GoesOutWhole, Holding, Holds, IsAllowed, IsAnswered, IsEmpty, IsFor, IsHeld, IsMet, IsUnanswered, IsUnshown, Settled, answer_in, before_after, before_by, dropping, forgetting, held_after, held_by, settled_amid, settles, settling, tpdu_before}
 use Rattle.command_card.specs.AtT1.{Carries, CarriesTold, Fetches, HandsOut, RespondsBy, may_bring}
 use Rattle.command_card.specs.AtT1.{shown as shown_whole}
 use Rattle.command_card.specs.Lending.{AreLent, Happening, IsStretch, LeadsLent, Lent, On_line, Passes, RunsLent, Stretch, lent_of, line_of}
@@ -34,31 +34,52 @@ use Rattle.command_card.proofs.SentLemmas.{same_data, same_header}
 -- ---- what is done amid a dialogue
 
 -- a response that was given is not too long
-abbrev Fits : Option Held → Type 0
-Fits None = Unit {0}
-Fits (Some h) = length h.answer.bytes ≤ OWN_RESPONSE_LIMIT
+abbrev Fits : Holding → Type 0
+Fits (Empty settled) = Unit {0}
+Fits (Holds h) = length h.answer.bytes ≤ OWN_RESPONSE_LIMIT
 
-none_held : (held : Option Held) → answer_in held ≡ None → held ≡ None
-none_held None is = refl
-none_held (Some h) is = absurd (cc)
+is_empty : (held : Holding) → answer_in held ≡ None → IsEmpty held
+is_empty (Empty settled) is = tt
+is_empty (Holds h) is = absurd (cc)
 
-forgets : (held : Option Held) → IsUnshown (forgetting held)
-forgets None = tt
-forgets (Some h) = refl
+-- the same in another state of the application
+held_still : (old new : GivenState) (held : Holding) → new.given ≡ old.given
+    → new.settled ≡ old.settled → IsHeld old held → IsHeld new held
+held_still old new held given settled_is is = (given ∙ is.0, settled_is ∙ is.1)
 
-same_answer : (held : Option Held) → answer_in (forgetting held) ≡ answer_in held
-same_answer None = refl
-same_answer (Some h) = refl
+same_held : (old new : GivenState) (held : Holding) → new ≡ old → IsHeld old held
+    → IsHeld new held
+same_held old new held same is = held_still old new held (ap (λ (s : GivenState). s.given) same)
+    (ap (λ (s : GivenState). s.settled) same) is
 
-still_fits : (held : Option Held) → Fits held → Fits (forgetting held)
-still_fits None fits = tt
-still_fits (Some h) fits = fits
+-- what holds without what was shown, and after a drop
+record Kept (s : GivenState) (held : Holding) : Type 0 where
+  is : IsHeld s held
+  fits : Fits held
+  unshown : IsUnshown held
+
+forgets : (s : GivenState) (held : Holding) → IsHeld s held → Fits held
+    → Kept s (forgetting held)
+forgets s (Empty settled) is fits = record { is = is; fits = tt; unshown = tt }
+forgets s (Holds h) is fits = record { is = is; fits = fits; unshown = refl }
+
+drops : (old new : GivenState) (held : Holding) → IsHeld old held → new.given ≡ None
+    → new.settled ≡ old.settled → Kept new (dropping held)
+drops old new (Empty settled) is gone same =
+    record { is = (gone, same ∙ is.1); fits = tt; unshown = tt }
+drops old new (Holds h) is gone same =
+    record { is = (gone, same ∙ is.1); fits = tt; unshown = tt }
+
+settles_on : (new : GivenState) (held : Holding) → IsHeld new (settling held)
+    → Kept new (settling held)
+settles_on new (Empty settled) is = record { is = is; fits = tt; unshown = tt }
+settles_on new (Holds h) is = record { is = is; fits = tt; unshown = tt }
 
 -- what is done to the card once, by what it holds
-record StepOf (before : Option Tpdu) (held : Option Held) (k : Giving) (new : CardState GivenState)
+record StepOf (before : Option Tpdu) (held : Holding) (k : Giving) (new : CardState GivenState)
     : Type 0 where
   is_allowed : IsAllowed held k
-  given_is : new.app.given ≡ answer_in (held_by held k)
+  given_is : IsHeld new.app (held_by held k)
   fits : Fits (held_by held k)
   said : IsSaid new.left (before_by before k)
 
@@ -86,31 +107,31 @@ fetch_step (For_repeat h bytes status) before old new n response said is =
     (is.same, none_said new.left is.none_left)
 
 -- the whole command takes the response that is held
-record Carried (held : Option Held) (c : Command) (response : List ℕ)
+record Carried (held : Holding) (c : Command) (response : List ℕ)
     (new : CardState GivenState) : Type 0 where
   brings : GoesOutWhole held c response
-  gone : new.app.given ≡ None
+  gone : IsHeld new.app (Empty true)
   said : IsSaid new.left None
 
-carry_step : (held : Option Held) (told c : Command) (old new : CardState GivenState)
+carry_step : (held : Holding) (told c : Command) (old new : CardState GivenState)
     (response : List ℕ) → old.app.given ≡ answer_in held → Fits held
     → Carries Gives old told (may_bring c.le) response new → Carried held c response new
 carry_step held told c old new response is fits carries = by held is fits carries.makes
   where
-    by : (h : Option Held) → old.app.given ≡ answer_in h → Fits h
+    by : (h : Holding) → old.app.given ≡ answer_in h → Fits h
         → Makes Gives old.app told carries.bytes carries.status new.app
         → Carried h c response new
     by h is f (inr (same, empty, sw, long)) = absurd (never h is f)
       where
-        never : (h : Option Held) → old.app.given ≡ answer_in h → Fits h → ⊥
-        never None is f =
+        never : (h : Holding) → old.app.given ≡ answer_in h → Fits h → ⊥
+        never (Empty settled) is f =
             subst (λ g. IsGiven g long.did.response long.did.status) is long.acts.0
-        never (Some x) is f =
+        never (Holds x) is f =
             let same = subst (λ g. IsGiven g long.did.response long.did.status) is long.acts.0 in
             omega (arith, long.long, f, ap length same.0)
-    by None is f (inl (gives, own, few)) =
+    by (Empty settled) is f (inl (gives, own, few)) =
         absurd (subst (λ g. IsGiven g carries.bytes carries.status) is gives.0)
-    by (Some h) is f (inl (gives, own, few)) =
+    by (Holds h) is f (inl (gives, own, few)) =
         let same = subst (λ g. IsGiven g carries.bytes carries.status) is gives.0 in record {
           brings = (
             new.left,
@@ -118,7 +139,10 @@ carry_step held told c old new response is fits carries = by held is fits carrie
                 (subst (λ w. HandsOut carries.bytes w (may_bring c.le) response new.left) same.1
                 carries.hands),
           );
-          gone = ap (λ (s : GivenState). s.given) gives.1;
+          gone = (
+            ap (λ (s : GivenState). s.given) gives.1,
+            ap (λ (s : GivenState). s.settled) gives.1,
+          );
           said = subst (λ l. IsSaid l None) (sym carries.hands.left_is)
               (fetched_none (drop (may_bring c.le) carries.bytes) carries.status own.1);
         }
@@ -138,9 +162,9 @@ in_kind false o old c response new is does =
     subst (λ x. CarriesTold Gives old c response new x) (sym is) does
 
 responded : (c : Command) (reached f : Bool) (o : Option Command) (response : List ℕ)
-    (before : Option Tpdu) (held : Option Held) (old mid : CardState GivenState)
+    (before : Option Tpdu) (held : Holding) (old mid : CardState GivenState)
     (app : GivenState) → reached ≡ (if f then false else is_some o)
-    → old.app.given ≡ answer_in held → Fits held → IsSaid old.left before
+    → IsHeld old.app held → Fits held → IsSaid old.left before
     → RespondsIn f o old c response (record { app = app; left = mid.left })
     → mid.app ≡ without_answer app → StepOf before held (Responded c reached response) mid
 responded c true true o response before held old mid app r is fits said does mid_is =
@@ -148,58 +172,70 @@ responded c true true o response before held old mid app r is fits said does mid
 responded c true false None response before held old mid app r is fits said does mid_is =
     absurd (cc)
 responded c true false (Some told) response before held old mid app r is fits said does mid_is =
-    let one = carry_step held told c old (record { app = app; left = mid.left }) response is fits
-    does in record {
+    let one = carry_step held told c old (record { app = app; left = mid.left }) response is.0
+    fits does in record {
       is_allowed = one.brings;
-      given_is = ap (λ (s : GivenState). s.given) mid_is ∙ one.gone;
+      given_is = held_still app mid.app (Empty true) (ap (λ (s : GivenState). s.given) mid_is)
+          (ap (λ (s : GivenState). s.settled) mid_is) one.gone;
       fits = tt;
       said = one.said;
     }
 responded c false true o response before held old mid app r is fits said does mid_is =
     let one = fetch_step old.left before old (record { app = app; left = mid.left })
-    (may_bring c.le) response said does in record {
+    (may_bring c.le) response said does in
+    let kept = forgets mid.app held (held_still app mid.app held
+    (ap (λ (s : GivenState). s.given) mid_is) (ap (λ (s : GivenState). s.settled) mid_is)
+    (same_held old.app app held one.0 is)) fits in record {
       is_allowed = tt;
-      given_is = ap (λ (s : GivenState). s.given) mid_is
-          ∙ ap (λ (s : GivenState). s.given) one.0 ∙ is ∙ sym (same_answer held);
-      fits = still_fits held fits;
+      given_is = kept.is;
+      fits = kept.fits;
       said = one.1;
     }
 responded c false false None response before held old mid app r is fits said does mid_is =
-    record {
+    let kept = forgets mid.app held (held_still app mid.app held
+    (ap (λ (s : GivenState). s.given) mid_is) (ap (λ (s : GivenState). s.settled) mid_is)
+    (same_held old.app app held does.same is)) fits in record {
       is_allowed = tt;
-      given_is = ap (λ (s : GivenState). s.given) mid_is
-          ∙ ap (λ (s : GivenState). s.given) does.same ∙ is ∙ sym (same_answer held);
-      fits = still_fits held fits;
+      given_is = kept.is;
+      fits = kept.fits;
       said = none_said mid.left does.none_left;
     }
 responded c false false (Some told) response before held old mid app r is fits said does mid_is =
     absurd (cc)
 
-step : (before : Option Tpdu) (held : Option Held) (k : Giving) (front : Front)
-    (old mid : CardState GivenState) → old.app.given ≡ answer_in held → Fits held
+step : (before : Option Tpdu) (held : Holding) (k : Giving) (front : Front)
+    (old mid : CardState GivenState) → IsHeld old.app held → Fits held
     → IsSaid old.left before → Lends k front old mid → StepOf before held k mid
 step before held (Gave shown a) front old mid is fits said (shows, none, own, few, mid_is) =
     record {
-      is_allowed = none_held held (sym is ∙ none);
-      given_is = ap (λ (s : CardState GivenState). s.app.given) mid_is;
+      is_allowed = is_empty held (sym is.0 ∙ none);
+      given_is = (
+        ap (λ (s : CardState GivenState). s.app.given) mid_is,
+        ap (λ (s : CardState GivenState). s.app.settled) mid_is,
+      );
       fits = few;
       said = subst (λ l. IsSaid l before)
           (sym (ap (λ (s : CardState GivenState). s.left) mid_is)) said;
     }
 step before held (Decided to_card) front old mid is fits said (unknown, mid_is) = record {
   is_allowed = tt;
-  given_is = ap (λ (s : CardState GivenState). s.app.given) mid_is ∙ is;
+  given_is = held_still old.app mid.app held
+      (ap (λ (s : CardState GivenState). s.app.given) mid_is)
+      (ap (λ (s : CardState GivenState). s.app.settled) mid_is) is;
   fits = fits;
   said = subst (λ l. IsSaid l before)
       (sym (ap (λ (s : CardState GivenState). s.left) mid_is)) said;
 }
-step before held TookBack front old mid is fits said mid_is = record {
-  is_allowed = tt;
-  given_is = ap (λ (s : CardState GivenState). s.app.given) mid_is;
-  fits = tt;
-  said = subst (λ l. IsSaid l before)
-      (sym (ap (λ (s : CardState GivenState). s.left) mid_is)) said;
-}
+step before held TookBack front old mid is fits said mid_is =
+    let kept = drops old.app mid.app held is
+    (ap (λ (s : CardState GivenState). s.app.given) mid_is)
+    (ap (λ (s : CardState GivenState). s.app.settled) mid_is) in record {
+      is_allowed = tt;
+      given_is = kept.is;
+      fits = kept.fits;
+      said = subst (λ l. IsSaid l before)
+          (sym (ap (λ (s : CardState GivenState). s.left) mid_is)) said;
+    }
 step before held (Responded c reached response) front old mid is fits said
     (reached_is, (app, does, mid_is)) =
     responded c reached (is_fetch c.header)
@@ -209,20 +245,20 @@ step before held (Responded c reached response) front old mid is fits said
     (record { app = app; left = mid.left }) refl does) mid_is
 
 -- what is done to the card amid a dialogue
-record Walk (before : Option Tpdu) (held : Option Held) (ks : List Giving)
+record Walk (before : Option Tpdu) (held : Holding) (ks : List Giving)
     (new : CardState GivenState) : Type 0 where
   are_allowed : AreAllowed held ks
-  given_is : new.app.given ≡ answer_in (held_after held ks)
+  given_is : IsHeld new.app (held_after held ks)
   fits : Fits (held_after held ks)
   said : IsSaid new.left (before_after before ks)
 
 walk : (so : List Event) (old new : CardState GivenState) (before : Option Tpdu)
-    (held : Option Held) (hs : List (Happening Giving)) → old.app.given ≡ answer_in held
+    (held : Holding) (hs : List (Happening Giving)) → IsHeld old.app held
     → Fits held → IsSaid old.left before → AreLent Lends so old hs new
     → Walk before held (lent_of hs) new
 walk so old new before held [] is fits said same = record {
   are_allowed = tt;
-  given_is = ap (λ (s : CardState GivenState). s.app.given) same ∙ is;
+  given_is = same_held old.app new.app held (ap (λ (s : CardState GivenState). s.app) same) is;
   fits = fits;
   said = subst (λ l. IsSaid l before)
       (sym (ap (λ (s : CardState GivenState). s.left) same)) said;
@@ -273,9 +309,9 @@ SuitsShown t directions left None = Unit {0}
 SuitsShown t directions left (Some c) =
     (is_known directions ≡ true) × IsTold t c (kind_at directions left t)
 
-abbrev Suits : Tpdu → CardState GivenState → Option Held → Type 0
-Suits t s None = Unit {0}
-Suits t s (Some h) = SuitsShown t s.app.directions s.left h.shown
+abbrev Suits : Tpdu → CardState GivenState → Holding → Type 0
+Suits t s (Empty settled) = Unit {0}
+Suits t s (Holds h) = SuitsShown t s.app.directions s.left h.shown
 
 suits_still : (t : Tpdu) (shown : Option Command) (ds es : Directions) (l m : Left) → es ≡ ds
     → m ≡ l → SuitsShown t ds l shown → SuitsShown t es m shown
@@ -300,22 +336,22 @@ shows_suits (Some c) (In_body b) s d more dialogue begun is (known, tells) =
           same.1 is whole,
     )
 
-suits_decided : (t : Tpdu) (held : Option Held) (old mid : CardState GivenState)
+suits_decided : (t : Tpdu) (held : Holding) (old mid : CardState GivenState)
     → is_known old.app.directions ≡ false → Suits t old held → Suits t mid held
-suits_decided t None old mid unknown suits = tt
-suits_decided t (Some h) old mid unknown suits = by h.shown suits where
+suits_decided t (Empty settled) old mid unknown suits = tt
+suits_decided t (Holds h) old mid unknown suits = by h.shown suits where
   by : (shown : Option Command) → SuitsShown t old.app.directions old.left shown
       → SuitsShown t mid.app.directions mid.left shown
   by None is = tt
   by (Some c) (known, is) = absurd (true≢false (sym known ∙ unknown))
 
-unshown_suits : (t : Tpdu) (s : CardState GivenState) (held : Option Held) → IsUnshown held
+unshown_suits : (t : Tpdu) (s : CardState GivenState) (held : Holding) → IsUnshown held
     → Suits t s held
-unshown_suits t s None is = tt
-unshown_suits t s (Some h) is =
+unshown_suits t s (Empty settled) is = tt
+unshown_suits t s (Holds h) is =
     subst (λ x. SuitsShown t s.app.directions s.left x) (sym is) tt
 
-suits_one : (held : Option Held) (k : Giving) (front : Front) (old mid : CardState GivenState)
+suits_one : (held : Holding) (k : Giving) (front : Front) (old mid : CardState GivenState)
     (d : Dialogue) (more : List Event) → IsDialogue d → IsFront front
     → passed (characters d) ≡ passed (front_characters front) ++ more
     → Suits (tpdu_of d) old held → Lends k front old mid → Suits (tpdu_of d) mid (held_by held k)
@@ -327,13 +363,16 @@ suits_one held (Gave shown a) front old mid d more dialogue begun is suits
     (shows_suits shown front old d more dialogue begun is shows)
 suits_one held (Decided to_card) front old mid d more dialogue begun is suits (unknown, mid_is) =
     suits_decided (tpdu_of d) held old mid unknown suits
-suits_one held TookBack front old mid d more dialogue begun is suits mid_is = tt
+suits_one (Empty settled) TookBack front old mid d more dialogue begun is suits mid_is = tt
+suits_one (Holds h) TookBack front old mid d more dialogue begun is suits mid_is = tt
 suits_one held (Responded c true response) front old mid d more dialogue begun is suits does = tt
-suits_one held (Responded c false response) front old mid d more dialogue begun is suits does =
-    unshown_suits (tpdu_of d) mid (forgetting held) (forgets held)
+suits_one (Empty settled) (Responded c false response) front old mid d more dialogue begun is
+    suits does = tt
+suits_one (Holds h) (Responded c false response) front old mid d more dialogue begun is suits
+    does = tt
 
 -- what is held at the end of a dialogue suits it
-suits_on : (so : List Event) (old new : CardState GivenState) (held : Option Held)
+suits_on : (so : List Event) (old new : CardState GivenState) (held : Holding)
     (hs : List (Happening Giving)) (rest : List Event) (d : Dialogue) → IsDialogue d
     → passed (characters d) ≡ so ++ (line_of hs ++ rest) → Suits (tpdu_of d) old held
     → AreLent Lends so old hs new → Suits (tpdu_of d) new (held_after held (lent_of hs))
@@ -369,23 +408,23 @@ shown_command t s before c said is =
     (is_command before t valid fetch (never_repeats s.left before t said none fetch), same)
 
 -- a response for which a command was shown is not left by what is no command
-unshown_left : (t : Tpdu) (s : CardState GivenState) (before : Option Tpdu) (held : Option Held)
+unshown_left : (t : Tpdu) (s : CardState GivenState) (before : Option Tpdu) (held : Holding)
     → IsSaid s.left before → Suits t s held → IsWithout before t → IsUnshown held
-unshown_left t s before None said suits without = tt
-unshown_left t s before (Some h) said suits without = by h.shown suits where
+unshown_left t s before (Empty settled) said suits without = tt
+unshown_left t s before (Holds h) said suits without = by h.shown suits where
   by : (shown : Option Command) → SuitsShown t s.app.directions s.left shown → shown ≡ None
   by None is = refl
   by (Some c) (known, is) = absurd ((shown_command t s before c said is).0 without)
 
 -- a command gets the response that was given for it
-abbrev IsForIt : Bool → Tpdu → Option Held → Type 0
-IsForIt to_card t None = Unit {0}
-IsForIt to_card t (Some h) = IsFor to_card t h.shown
+abbrev IsForIt : Bool → Tpdu → Holding → Type 0
+IsForIt to_card t (Empty settled) = Unit {0}
+IsForIt to_card t (Holds h) = IsFor to_card t h.shown
 
-for_it : (t : Tpdu) (s : CardState GivenState) (before : Option Tpdu) (held : Option Held)
+for_it : (t : Tpdu) (s : CardState GivenState) (before : Option Tpdu) (held : Holding)
     → IsSaid s.left before → Suits t s held → IsForIt (takes_data s.app t.header) t held
-for_it t s before None said suits = tt
-for_it t s before (Some h) said suits = by h.shown suits where
+for_it t s before (Empty settled) said suits = tt
+for_it t s before (Holds h) said suits = by h.shown suits where
   by : (shown : Option Command) → SuitsShown t s.app.directions s.left shown
       → IsFor (takes_data s.app t.header) t shown
   by None is = tt
@@ -400,17 +439,17 @@ none_received true t sw cut = (refl, refl)
 none_received false t sw cut = (refl, refl)
 
 -- what one command brings and leaves
-abbrev Answered : Bool → Option Held → Tpdu → GivenState → GivenState → Type 0
-Answered strict held t old new = (IsAnswered held t × (new.given ≡ None))
+abbrev Answered : Bool → Holding → Tpdu → GivenState → GivenState → Type 0
+Answered strict held t old new = (IsAnswered held t × IsHeld new (settling held))
     ⊎ ((strict ≡ false) × IsUnanswered t × (new ≡ old))
 
 -- what became of each
-record Met (strict : Bool) (before : Option Tpdu) (held : Option Held)
+record Met (strict : Bool) (before : Option Tpdu) (held : Holding)
     (stretches : List (Stretch Giving)) (last : CardState GivenState) : Type 0 where
   done : List Settled
-  left : Option Held
+  left : Holding
   are : AreMet strict before held stretches done left
-  given_is : last.app.given ≡ answer_in left
+  given_is : IsHeld last.app left
   fits : Fits left
   before_left : Option Tpdu
   said : IsSaid last.left before_left
@@ -419,14 +458,14 @@ module _ (strict : Bool) (Act : GivenState → Did → GivenState → Type 0)
     (answers : (old new : GivenState) (did : Did) → Act old did new → AnswersBy strict old did new)
   where
     -- no response is too long
-    short : (old : GivenState) (held : Option Held) (c : Command) → old.given ≡ answer_in held
+    short : (old : GivenState) (held : Holding) (c : Command) → old.given ≡ answer_in held
         → Fits held → IsTooLong Act old c → ⊥
     short old held c is fits l = by (answers old l.next l.did l.acts)
       where
-        given : (h : Option Held) → Fits h
+        given : (h : Holding) → Fits h
             → IsGiven (answer_in h) l.did.response l.did.status → ⊥
-        given None f is = is
-        given (Some h) f is = omega (arith, l.long, f, ap length is.0)
+        given (Empty settled) f is = is
+        given (Holds h) f is = omega (arith, l.long, f, ap length is.0)
 
         by : AnswersBy strict old l.did l.next → ⊥
         by (inl gives) = given held fits
@@ -437,15 +476,15 @@ module _ (strict : Bool) (Act : GivenState → Did → GivenState → Type 0)
             omega (arith, less)
 
     carried : (to_card : Bool) (old : GivenState) (t : Tpdu) (new : GivenState)
-        (held : Option Held) → old.given ≡ answer_in held → Fits held → IsForIt to_card t held
+        (held : Holding) → IsHeld old held → Fits held → IsForIt to_card t held
         → IsCarriedOut Act to_card old t new → Answered strict held t old new
     carried to_card old t new held is fits for c = by c.makes
       where
-        brings : (h : Option Held) → IsForIt to_card t h
-            → IsGiven (answer_in h) c.response c.status → new.given ≡ None
+        brings : (h : Holding) → IsForIt to_card t h
+            → IsGiven (answer_in h) c.response c.status → IsHeld new (Empty true)
             → Answered strict h t old new
-        brings None it is gone = absurd is
-        brings (Some h) it (bytes_are, status_is) gone = inl (
+        brings (Empty settled) it is gone = absurd is
+        brings (Holds h) it (bytes_are, status_is) gone = inl (
           record {
             to_card = to_card;
             cut = c.cut;
@@ -471,19 +510,19 @@ module _ (strict : Bool) (Act : GivenState → Did → GivenState → Type 0)
                   ∙ n.1,
             )
 
-        refused : (v : Bool) (h : Option Held) → v ≡ strict → old.given ≡ answer_in h
+        refused : (v : Bool) (h : Holding) → v ≡ strict → IsHeld old h
             → (strict ≡ true → old.given ≡ None) → IsUnanswered t → new ≡ old
             → Answered strict h t old new
-        refused v None v_is given_is none without same =
-            inl (without, ap (λ (s : GivenState). s.given) same ∙ given_is)
-        refused true (Some h) v_is given_is none without same =
-            let no : None ≡ Some h.answer = sym (none (sym v_is)) ∙ given_is in absurd (cc)
-        refused false (Some h) v_is given_is none without same = inr (sym v_is, without, same)
+        refused v (Empty settled) v_is given_is none without same =
+            inl (without, same_held old new (Empty settled) same given_is)
+        refused true (Holds h) v_is given_is none without same =
+            let no : None ≡ Some h.answer = sym (none (sym v_is)) ∙ given_is.0 in absurd (cc)
+        refused false (Holds h) v_is given_is none without same = inr (sym v_is, without, same)
 
         by : Makes Act old (command_in to_card t) c.response c.status new
             → Answered strict held t old new
         by (inr (same, empty, sw, long)) =
-            absurd (short old held (command_in to_card t) is fits long)
+            absurd (short old held (command_in to_card t) is.0 fits long)
         by (inl (acts, own, few)) = of (answers old new (record {
           command = command_in to_card t;
           response = c.response;
@@ -496,8 +535,8 @@ module _ (strict : Bool) (Act : GivenState → Did → GivenState → Type 0)
               status = c.status;
             }) new → Answered strict held t old new
             of (inl gives) = brings held for
-                (subst (λ g. IsGiven g c.response c.status) is gives.0)
-                (ap (λ (s : GivenState). s.given) gives.1)
+                (subst (λ g. IsGiven g c.response c.status) is.0 gives.0)
+                (same_held (settled old) new (Empty true) gives.1 (refl, refl))
             of (inr (none, did_is, same)) = refused strict held refl is none
                 (unanswered (ap (λ (d : Did). d.response) did_is)
                 (ap (λ (d : Did). d.status) did_is)) same
@@ -505,30 +544,30 @@ module _ (strict : Bool) (Act : GivenState → Did → GivenState → Type 0)
     -- what becomes of the rest, after an item
     abbrev Rests : Option Tpdu → CardState GivenState → List (Stretch Giving)
         → CardState GivenState → Type 0
-    Rests before mid ss last = (held : Option Held) → mid.app.given ≡ answer_in held → Fits held
+    Rests before mid ss last = (held : Holding) → IsHeld mid.app held → Fits held
         → IsUnshown held → IsSaid mid.left before → Met strict before held ss last
 
     -- what becomes of what is held at the end of an item, and of the rest
-    record MetAt (before : Option Tpdu) (it : Item) (held : Option Held)
+    record MetAt (before : Option Tpdu) (it : Item) (held : Holding)
         (ss : List (Stretch Giving)) (last : CardState GivenState) : Type 0 where
       done : List Settled
-      left : Option Held
+      left : Holding
       is : IsMet strict before held it done
           (λ now others. AreMet strict (tpdu_before it) now ss others left)
-      given_is : last.app.given ≡ answer_in left
+      given_is : IsHeld last.app left
       fits : Fits left
       before_left : Option Tpdu
       said : IsSaid last.left before_left
 
-    whole : (d : Dialogue) (before : Option Tpdu) (held : Option Held)
+    whole : (d : Dialogue) (before : Option Tpdu) (held : Holding)
         (ready mid last : CardState GivenState) (ss : List (Stretch Giving))
-        → ready.app.given ≡ answer_in held → Fits held → Suits (tpdu_of d) ready held
+        → IsHeld ready.app held → Fits held → Suits (tpdu_of d) ready held
         → IsSaid ready.left before → IsSaid mid.left (Some (tpdu_of d))
         → StepsBy takes_data Act before ready.app (tpdu_of d) mid.app
         → Rests (Some (tpdu_of d)) mid ss last → MetAt before (Whole d) held ss last
     whole d before held ready mid last ss is fits suits said on (inl (without, same)) rest =
         let unshown = unshown_left (tpdu_of d) ready before held said suits without in
-        let r = rest held (ap (λ (s : GivenState). s.given) same ∙ is) fits unshown on in record {
+        let r = rest held (same_held ready.app mid.app held same is) fits unshown on in record {
           done = r.done;
           left = r.left;
           is = inl (without, unshown, r.are);
@@ -543,19 +582,20 @@ module _ (strict : Bool) (Act : GivenState → Did → GivenState → Type 0)
       where
         by : Answered strict held (tpdu_of d) ready.app mid.app
             → MetAt before (Whole d) held ss last
-        by (inl (answered, gone)) = let r = rest None gone tt tt on in record {
-          done = settles held (tpdu_of d) ++ r.done;
-          left = r.left;
-          is = inr (inl (other, answered, r.done, refl, r.are));
-          given_is = r.given_is;
-          fits = r.fits;
-          before_left = r.before_left;
-          said = r.said;
-        }
+        by (inl (answered, now)) =
+            let kept = settles_on mid.app held now in
+            let r = rest (settling held) now kept.fits kept.unshown on in record {
+              done = settles held (tpdu_of d) ++ r.done;
+              left = r.left;
+              is = inr (inl (other, answered, r.done, refl, r.are));
+              given_is = r.given_is;
+              fits = r.fits;
+              before_left = r.before_left;
+              said = r.said;
+            }
         by (inr (lax, without, same)) =
-            let r = rest (forgetting held)
-            (ap (λ (s : GivenState). s.given) same ∙ is ∙ sym (same_answer held))
-            (still_fits held fits) (forgets held) on in record {
+            let kept = forgets mid.app held (same_held ready.app mid.app held same is) fits in
+            let r = rest (forgetting held) kept.is kept.fits kept.unshown on in record {
               done = r.done;
               left = r.left;
               is = inr (inr (lax, other, without, r.are));
@@ -565,10 +605,10 @@ module _ (strict : Bool) (Act : GivenState → Did → GivenState → Type 0)
               said = r.said;
             }
 
-    ended : (it : Item) (before : Option Tpdu) (held : Option Held) (s : Stretch Giving)
+    ended : (it : Item) (before : Option Tpdu) (held : Holding) (s : Stretch Giving)
         (old ready mid last : CardState GivenState) (ss : List (Stretch Giving))
         → events_of it ≡ line_of s.before ++ s.last ∷ []
-        → old.app.given ≡ answer_in held → Fits held → IsUnshown held → IsSaid old.left before
+        → IsHeld old.app held → Fits held → IsUnshown held → IsSaid old.left before
         → AreLent Lends [] old s.before ready
         → Passes (Does takes_data Act) (after_reset after_drop) ready it mid
         → Rests (tpdu_before it) mid ss last
@@ -577,7 +617,12 @@ module _ (strict : Bool) (Act : GivenState → Did → GivenState → Type 0)
     ended (Cut_off part) before held s old ready mid last ss stretch is fits unshown said lent
         (is_part, mid_is) rest =
         let P : Left → Type 0 = λ l. IsSaid l None in
-        let r = rest None (ap (λ (x : CardState GivenState). x.app.given) mid_is) tt tt
+        let now = held_after held (lent_of s.before) in
+        let w = walk [] old ready before held s.before is fits said lent in
+        let kept = drops ready.app mid.app now w.given_is
+        (ap (λ (x : CardState GivenState). x.app.given) mid_is)
+        (ap (λ (x : CardState GivenState). x.app.settled) mid_is) in
+        let r = rest (dropping now) kept.is kept.fits kept.unshown
         (subst P (sym (ap (λ (x : CardState GivenState). x.left) mid_is)) tt) in record {
           done = r.done;
           left = r.left;
@@ -597,8 +642,8 @@ module _ (strict : Bool) (Act : GivenState → Did → GivenState → Type 0)
         (suits_on [] old ready held s.before (s.last ∷ []) d under.is_dialogue stretch
         (unshown_suits (tpdu_of d) old held unshown) lent) w.said t.said t.steps rest
 
-    met : (stretches : List (Stretch Giving)) (before : Option Tpdu) (held : Option Held)
-        (old last : CardState GivenState) → old.app.given ≡ answer_in held → Fits held
+    met : (stretches : List (Stretch Giving)) (before : Option Tpdu) (held : Holding)
+        (old last : CardState GivenState) → IsHeld old.app held → Fits held
         → IsUnshown held → IsSaid old.left before
         → RunsLent (Does takes_data Act) (after_reset after_drop) Lends old stretches last
         → Met strict before held stretches last
@@ -606,7 +651,8 @@ module _ (strict : Bool) (Act : GivenState → Did → GivenState → Type 0)
       done = [];
       left = held;
       are = (refl, refl);
-      given_is = ap (λ (s : CardState GivenState). s.app.given) same ∙ is;
+      given_is = same_held old.app last.app held
+          (ap (λ (s : CardState GivenState). s.app) same) is;
       fits = fits;
       before_left = before;
       said = subst (λ l. IsSaid l before)
@@ -644,9 +690,9 @@ module _ (strict : Bool) (Act : GivenState → Did → GivenState → Type 0)
         (prepared : Prepared (CardState GivenState)) (stage : Stage) → first.left ≡ Nothing_left
         → first.app.given ≡ None
         → LeadsLent (Does takes_data Act) (after_reset after_drop) Lends first hs last prepared
-        stage → ComesOf strict hs last.app
+        stage → ComesOf strict first.app hs last.app
     comes first last hs prepared stage none unheld led =
-        let m = met led.stretches None None first led.mid unheld tt tt
+        let m = met led.stretches None (Empty first.app.settled) first led.mid (unheld, refl) tt tt
         (subst (λ l. IsSaid l None) (sym none) tt) led.runs in
         let w = walk [] led.mid last m.before_left m.left led.current m.given_is m.fits m.said
         led.are_lent in

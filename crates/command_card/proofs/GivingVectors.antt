@@ -17,7 +17,7 @@ use Rattle.command_card.specs.Carrying.{asking}
 use Rattle.command_card.specs.Deeds.{HasData, IsWithout, command_in, outcome_in}
 use Rattle.command_card.specs.Given.{Answer, GivenState, after_drop, new_given, takes_data}
 use Rattle.command_card.specs.Giving.{Decided, Gave, Giving, Lends, Responded, TookBack}
-use Rattle.command_card.specs.Settling.{AnswersBy, AreAllowed, AreMet, As_whole, GoesOut, GoesOutWhole, By_tpdu, Held, Settled}
+use Rattle.command_card.specs.Settling.{AnswersBy, AreAllowed, AreMet, As_whole, By_tpdu, Empty, GoesOut, GoesOutWhole, Held, Holding, Holds, Settled}
 use Rattle.command_card.specs.Lending.{AreLent, Happening, IsStretch, Lent, On_line, RunsLent, Stretch}
 use Rattle.command_card.specs.Meaning.{Does}
 use Rattle.command_card.specs.State.{CardState, Nothing_left}
@@ -195,10 +195,10 @@ goes_out byte = record {
 }
 
 -- two commands, each with its response: both settle, in order
-two_settle : AreMet true None None (answered 0x2A 0x2A ∷ answered 0x2B 0x2B ∷ [])
-    (settled_with 0x2A ∷ settled_with 0x2B ∷ []) None
+two_settle : AreMet true None (Empty true) (answered 0x2A 0x2A ∷ answered 0x2B 0x2B ∷ [])
+    (settled_with 0x2A ∷ settled_with 0x2B ∷ []) (Empty true)
 two_settle = (
-  (tt, (refl, tt)),
+  (tt, (tt, tt)),
   settled_with 0x2A ∷ settled_with 0x2B ∷ [],
   refl,
   inr (inl (
@@ -207,7 +207,7 @@ two_settle = (
     settled_with 0x2B ∷ [],
     refl,
     (
-      (tt, (refl, tt)),
+      (tt, (tt, tt)),
       settled_with 0x2B ∷ [],
       refl,
       inr (inl (second 0x2A 0x2B, goes_out 0x2B, [], refl, (refl, refl))),
@@ -216,40 +216,40 @@ two_settle = (
 )
 
 -- a reset before SW2 drops the first; only the second settles
-one_is_dropped : AreMet true None None (reset_amid ∷ answered 0x2B 0x2B ∷ [])
-    (settled_with 0x2B ∷ []) None
+one_is_dropped : AreMet true None (Empty true) (reset_amid ∷ answered 0x2B 0x2B ∷ [])
+    (settled_with 0x2B ∷ []) (Empty true)
 one_is_dropped = (
-  (refl, tt),
+  (tt, tt),
   settled_with 0x2B ∷ [],
   refl,
   (
-    (tt, (refl, tt)),
+    (tt, (tt, tt)),
     settled_with 0x2B ∷ [],
     refl,
     inr (inl (command 0x2B, goes_out 0x2B, [], refl, (refl, refl))),
   ),
 )
 
--- given and taken back: the command gets 6581, and nothing settles
-none_settles : AreMet true None None
-    (unanswered (Lent (Gave None (with_byte 0x2A)) ∷ Lent TookBack ∷ []) ∷ []) [] None
+-- given and taken back: the command gets 6581, and nothing settles, so `has_settled` is false
+none_settles : AreMet true None (Empty true)
+    (unanswered (Lent (Gave None (with_byte 0x2A)) ∷ Lent TookBack ∷ []) ∷ []) [] (Empty false)
 none_settles =
-    ((refl, (tt, tt)), [], refl, inr (inl (refusal, (refl, refl), [], refl, (refl, refl))))
+    ((tt, (tt, tt)), [], refl, inr (inl (refusal, (refl, refl), [], refl, (refl, refl))))
 
 -- given, and passed as a whole command: it settles, and the TPDU gets 6581
-whole_settles : AreMet true None None
+whole_settles : AreMet true None (Empty true)
     (unanswered (Lent (Gave None (with_byte 0x2A))
     ∷ Lent (Responded shown true (0x2A ∷ 0x90 ∷ 0x00 ∷ [])) ∷ []) ∷ [])
-    (As_whole shown (with_byte 0x2A) ∷ []) None
+    (As_whole shown (with_byte 0x2A) ∷ []) (Empty true)
 whole_settles = (
-  (refl, ((Nothing_left, record { response_is = refl; left_is = refl }), tt)),
+  (tt, ((Nothing_left, record { response_is = refl; left_is = refl }), tt)),
   [],
   refl,
   inr (inl (refusal, (refl, refl), [], refl, (refl, refl))),
 )
 
 -- nothing happened
-nothing : AreMet true None None [] [] None
+nothing : AreMet true None (Empty true) [] [] (Empty true)
 nothing = (refl, refl)
 
 -- near misses, also for a card that may miss a response
@@ -266,8 +266,8 @@ other_bytes true cut is = absurd (cc)
 other_bytes false cut is =
     let no : 0x2B ≡ 0x2A = ap first_of is in omega (arith, no)
 
-not_another : (strict : Bool) (done : List Settled) (last : Option Held)
-    → AreMet strict None None (answered 0x2A 0x2B ∷ []) done last → ⊥
+not_another : (strict : Bool) (done : List Settled) (last : Holding)
+    → AreMet strict None (Empty true) (answered 0x2A 0x2B ∷ []) done last → ⊥
 not_another strict done last (_, _, _, inl (without, _, _)) = command 0x2B without
 not_another strict done last (_, _, _, inr (inl (other, out, _, _, _))) =
     other_bytes out.to_card out.cut out.received_is
@@ -281,8 +281,8 @@ other_header true is =
 other_header false is =
     let no : 0x11 ≡ 0x10 = ap (λ (c : Command). c.header.ins) is in omega (arith, no)
 
-not_for_another : (strict : Bool) (done : List Settled) (last : Option Held)
-    → AreMet strict None None (answered_for other_shown 0x2A 0x2A ∷ []) done last → ⊥
+not_for_another : (strict : Bool) (done : List Settled) (last : Holding)
+    → AreMet strict None (Empty true) (answered_for other_shown 0x2A 0x2A ∷ []) done last → ⊥
 not_for_another strict done last (_, _, _, inl (without, _, _)) = command 0x2A without
 not_for_another strict done last (_, _, _, inr (inl (other, out, _, _, _))) =
     other_header out.to_card out.is_for
@@ -303,8 +303,8 @@ a_command (inl invalid) = absurd (cc)
 a_command (inr (inl fetches)) = absurd (cc)
 a_command (inr (inr repeats)) = repeats
 
-not_the_other_way : (strict : Bool) (done : List Settled) (last : Option Held)
-    → AreMet strict None None (answered_instead ∷ []) done last → ⊥
+not_the_other_way : (strict : Bool) (done : List Settled) (last : Holding)
+    → AreMet strict None (Empty true) (answered_instead ∷ []) done last → ⊥
 not_the_other_way strict done last (_, _, _, inl (without, _, _)) = a_command without
 not_the_other_way strict done last (_, _, _, inr (inl (other, out, _, _, _))) =
     other_way out.to_card out.is_for out.has_data
@@ -312,8 +312,8 @@ not_the_other_way strict done last (_, _, _, inr (inr (lax, other, (status, none
     let no : 0x90 ≡ 0x65 = ap (λ (w : StatusWord). w.0) status in omega (arith, no)
 
 -- a command was shown, and the TPDU fetches
-not_amid_a_fetch : (strict : Bool) (done : List Settled) (last : Option Held)
-    → AreMet strict None None (given_amid_a_fetch ∷ []) done last → ⊥
+not_amid_a_fetch : (strict : Bool) (done : List Settled) (last : Holding)
+    → AreMet strict None (Empty true) (given_amid_a_fetch ∷ []) done last → ⊥
 not_amid_a_fetch strict done last (_, _, _, inl (without, unshown, _)) = absurd (cc)
 not_amid_a_fetch strict done last (_, _, _, inr (inl (other, _, _, _, _))) =
     other (inr (inl refl))
@@ -321,15 +321,15 @@ not_amid_a_fetch strict done last (_, _, _, inr (inr (lax, other, _, _))) =
     other (inr (inl refl))
 
 -- a response twice
-not_twice : (strict : Bool) (done : List Settled) (last : Option Held)
-    → AreMet strict (Some (tpdu_of (asked 0x2A))) None (ungiven 0x2A ∷ []) done last → ⊥
+not_twice : (strict : Bool) (done : List Settled) (last : Holding)
+    → AreMet strict (Some (tpdu_of (asked 0x2A))) (Empty true) (ungiven 0x2A ∷ []) done last → ⊥
 not_twice strict done last (_, _, _, inl (without, _, _)) = second 0x2A 0x2A without
 not_twice strict done last (_, _, _, inr (inl (other, (status, none), _, _, _))) = absurd (cc)
 not_twice strict done last (_, _, _, inr (inr (lax, other, (status, none), _))) = absurd (cc)
 
 -- a response that a reset dropped
-not_after_a_reset : (strict : Bool) (done : List Settled) (last : Option Held)
-    → AreMet strict None None (reset_amid ∷ ungiven 0x2A ∷ []) done last → ⊥
+not_after_a_reset : (strict : Bool) (done : List Settled) (last : Holding)
+    → AreMet strict None (Empty true) (reset_amid ∷ ungiven 0x2A ∷ []) done last → ⊥
 not_after_a_reset strict done last (_, _, _, (_, _, _, inl (without, _, _))) =
     command 0x2A without
 not_after_a_reset strict done last
@@ -338,23 +338,28 @@ not_after_a_reset strict done last
     (_, _, _, (_, _, _, inr (inr (lax, other, (status, none), _)))) = absurd (cc)
 
 -- a command that a reset dropped has not settled
-not_settled : (strict : Bool) (s : Settled) (last : Option Held)
-    → AreMet strict None None (reset_amid ∷ []) (s ∷ []) last → ⊥
+not_settled : (strict : Bool) (s : Settled) (last : Holding)
+    → AreMet strict None (Empty true) (reset_amid ∷ []) (s ∷ []) last → ⊥
 not_settled strict s last (allowed, more, all, (none, is)) = absurd (cc)
 
+-- nor does it count as settled
+not_counted : (strict : Bool)
+    → AreMet strict None (Empty true) (reset_amid ∷ []) [] (Empty true) → ⊥
+not_counted strict (allowed, more, all, (none, is)) = absurd (cc)
+
 -- a second response before the first went out
-not_over_another : (strict : Bool) (done : List Settled) (last : Option Held)
-    → AreMet strict None (Some (held_with None 0x2A))
+not_over_another : (strict : Bool) (done : List Settled) (last : Holding)
+    → AreMet strict None (Holds (held_with None 0x2A))
     (answered 0x2B 0x2B ∷ []) done last → ⊥
-not_over_another strict done last ((known, (none, others)), more, all, rest) = absurd (cc)
+not_over_another strict done last ((known, (none, others)), more, all, rest) = none
 
 -- a response by a whole command, twice
 not_whole_twice : (h : Held) (c : Command) (response again : List ℕ)
-    → AreAllowed (Some h) (Responded c true response ∷ Responded c true again ∷ []) → ⊥
+    → AreAllowed (Holds h) (Responded c true response ∷ Responded c true again ∷ []) → ⊥
 not_whole_twice h c response again (once, (never, rest)) = never
 
 -- more of a response than Le asks for
-not_beyond_le : GoesOutWhole (Some (record {
+not_beyond_le : GoesOutWhole (Holds (record {
   shown = None;
   answer = record { bytes = 0x2A ∷ 0x2B ∷ []; status = (0x90, 0x00) };
 })) shown (0x2A ∷ 0x2B ∷ 0x90 ∷ 0x00 ∷ []) → ⊥

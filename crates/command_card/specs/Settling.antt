@@ -24,30 +24,60 @@ pub record Held : Type 0 where
   pub shown : Option Command
   pub answer : Answer
 
--- the response without what was shown for it
-abbrev pub forgetting : Option Held → Option Held
-forgetting None = None
-forgetting (Some h) = Some (record { shown = None; answer = h.answer })
+-- What the card holds: a response, or nothing. `settled`: the response that was given last has
+-- settled, or none was given.
+pub data Holding : Type 0 where
+  Holds : (h : Held) → Holding
+  Empty : (settled : Bool) → Holding
+
+-- the same in the application
+abbrev pub answer_in : Holding → Option Answer
+answer_in (Holds h) = Some h.answer
+answer_in (Empty settled) = None
+
+abbrev pub settled_in : Holding → Bool
+settled_in (Holds h) = false
+settled_in (Empty settled) = settled
+
+abbrev pub IsHeld : GivenState → Holding → Type 0
+IsHeld s held = (s.given ≡ answer_in held) × (s.settled ≡ settled_in held)
+
+abbrev pub IsEmpty : Holding → Type 0
+IsEmpty (Holds h) = ⊥
+IsEmpty (Empty settled) = Unit {0}
+
+-- the same after a command that settles, after a drop, and without what was shown
+abbrev pub settling : Holding → Holding
+settling (Holds h) = Empty true
+settling (Empty settled) = Empty settled
+
+abbrev pub dropping : Holding → Holding
+dropping (Holds h) = Empty false
+dropping (Empty settled) = Empty settled
+
+abbrev pub forgetting : Holding → Holding
+forgetting (Holds h) = Holds (record { shown = None; answer = h.answer })
+forgetting (Empty settled) = Empty settled
 
 -- What is held after this. A whole command that the application carries out takes the response. Any
 -- other leaves it, but forgets the direction, and so what was shown.
-abbrev pub held_by : Option Held → Giving → Option Held
-held_by held (Gave shown a) = Some (record { shown = shown; answer = a })
+abbrev pub held_by : Holding → Giving → Holding
+held_by held (Gave shown a) = Holds (record { shown = shown; answer = a })
 held_by held (Decided to_card) = held
-held_by held TookBack = None
-held_by held (Responded c true response) = None
+held_by held TookBack = dropping held
+held_by held (Responded c true response) = Empty true
 held_by held (Responded c false response) = forgetting held
 
 -- the response that is held goes out for this whole command, as far as Le asks
-abbrev pub GoesOutWhole : Option Held → Command → List ℕ → Type 0
-GoesOutWhole None c response = ⊥
-GoesOutWhole (Some h) c response = (left : Left)
+abbrev pub GoesOutWhole : Holding → Command → List ℕ → Type 0
+GoesOutWhole (Empty settled) c response = ⊥
+GoesOutWhole (Holds h) c response = (left : Left)
     × HandsOut h.answer.bytes h.answer.status (may_bring c.le) response left
 
 -- A response is given only if none is held. The one that is held goes out for a whole command that
 -- the application carries out.
-abbrev pub IsAllowed : Option Held → Giving → Type 0
-IsAllowed held (Gave shown a) = held ≡ None
+abbrev pub IsAllowed : Holding → Giving → Type 0
+IsAllowed held (Gave shown a) = IsEmpty held
 IsAllowed held (Decided to_card) = Unit {0}
 IsAllowed held TookBack = Unit {0}
 IsAllowed held (Responded c true response) = GoesOutWhole held c response
@@ -58,8 +88,8 @@ pub data Settled : Type 0 where
   By_tpdu : (t : Tpdu) (answer : Answer) → Settled
   As_whole : (c : Command) (answer : Answer) → Settled
 
-abbrev pub settled_by : Option Held → Giving → List Settled
-settled_by (Some h) (Responded c true response) = As_whole c h.answer ∷ []
+abbrev pub settled_by : Holding → Giving → List Settled
+settled_by (Holds h) (Responded c true response) = As_whole c h.answer ∷ []
 settled_by held other = []
 
 -- the TPDU just before what follows: none after a whole command
@@ -68,15 +98,15 @@ before_by before (Responded c reached response) = None
 before_by before other = before
 
 -- the same of several, in order
-abbrev pub held_after : Option Held → List Giving → Option Held
+abbrev pub held_after : Holding → List Giving → Holding
 held_after held [] = held
 held_after held (k ∷ ks) = held_after (held_by held k) ks
 
-abbrev pub AreAllowed : Option Held → List Giving → Type 0
+abbrev pub AreAllowed : Holding → List Giving → Type 0
 AreAllowed held [] = Unit {0}
 AreAllowed held (k ∷ ks) = IsAllowed held k × AreAllowed (held_by held k) ks
 
-abbrev pub settled_amid : Option Held → List Giving → List Settled
+abbrev pub settled_amid : Holding → List Giving → List Settled
 settled_amid held [] = []
 settled_amid held (k ∷ ks) = settled_by held k ++ settled_amid (held_by held k) ks
 
@@ -85,14 +115,9 @@ before_after before [] = before
 before_after before (k ∷ ks) = before_after (before_by before k) ks
 
 -- no command was shown for it
-abbrev pub IsUnshown : Option Held → Type 0
-IsUnshown None = Unit {0}
-IsUnshown (Some h) = h.shown ≡ None
-
--- the response alone
-abbrev pub answer_in : Option Held → Option Answer
-answer_in None = None
-answer_in (Some h) = Some h.answer
+abbrev pub IsUnshown : Holding → Type 0
+IsUnshown (Holds h) = h.shown ≡ None
+IsUnshown (Empty settled) = Unit {0}
 
 -- what was shown, if anything was, is the command of this TPDU, whose data go this way
 abbrev pub IsFor : Bool → Tpdu → Option Command → Type 0
@@ -113,13 +138,13 @@ pub record GoesOut (t : Tpdu) (h : Held) : Type 0 where
 abbrev pub IsUnanswered : Tpdu → Type 0
 IsUnanswered t = (t.status ≡ (0x65, 0x81)) × (t.received ≡ [])
 
-abbrev pub IsAnswered : Option Held → Tpdu → Type 0
-IsAnswered None t = IsUnanswered t
-IsAnswered (Some h) t = GoesOut t h
+abbrev pub IsAnswered : Holding → Tpdu → Type 0
+IsAnswered (Empty settled) t = IsUnanswered t
+IsAnswered (Holds h) t = GoesOut t h
 
-abbrev pub settles : Option Held → Tpdu → List Settled
-settles None t = []
-settles (Some h) t = By_tpdu t h.answer ∷ []
+abbrev pub settles : Holding → Tpdu → List Settled
+settles (Empty settled) t = []
+settles (Holds h) t = By_tpdu t h.answer ∷ []
 
 -- the whole TPDU just before what follows
 abbrev pub tpdu_before : Item → Option Tpdu
@@ -128,25 +153,26 @@ tpdu_before (Cut_off part) = None
 
 -- What becomes of the response that is held when an item ends:
 -- - A TPDU that is no command leaves it. Then no command was shown for it.
--- - It goes out for a command, which settles.
+-- - It goes out for a command, which settles. If none is held, the command has 6581.
 -- - If not `strict`, a command may have 6581 instead, and the response stays.
 -- - A reset drops it.
 -- `Rest`: what becomes of the rest, with what is held now.
-abbrev pub IsMet : Bool → Option Tpdu → Option Held → Item → List Settled
-    → (Option Held → List Settled → Type 0) → Type 0
+abbrev pub IsMet : Bool → Option Tpdu → Holding → Item → List Settled
+    → (Holding → List Settled → Type 0) → Type 0
 IsMet strict before held (Whole d) done Rest =
     (IsWithout before (tpdu_of d) × IsUnshown held × Rest held done)
     ⊎ ((IsWithout before (tpdu_of d) → ⊥) × IsAnswered held (tpdu_of d)
-    × (others : List Settled) × (done ≡ settles held (tpdu_of d) ++ others) × Rest None others)
+    × (others : List Settled) × (done ≡ settles held (tpdu_of d) ++ others)
+    × Rest (settling held) others)
     ⊎ ((strict ≡ false) × (IsWithout before (tpdu_of d) → ⊥) × IsUnanswered (tpdu_of d)
     × Rest (forgetting held) done)
-IsMet strict before held (Cut_off part) done Rest = Rest None done
+IsMet strict before held (Cut_off part) done Rest = Rest (dropping held) done
 
 -- What becomes of each response, in order, from the TPDU `before` on, with `held`. `done`: the
 -- commands that settled, each with the response that was given for it. `last`: what is held at the
 -- end.
-abbrev pub AreMet : Bool → Option Tpdu → Option Held → List (Stretch Giving) → List Settled
-    → Option Held → Type 0
+abbrev pub AreMet : Bool → Option Tpdu → Holding → List (Stretch Giving) → List Settled
+    → Holding → Type 0
 AreMet strict before held [] done last = (done ≡ []) × (last ≡ held)
 AreMet strict before held (s ∷ ss) done last = AreAllowed held (lent_of s.before)
     × (others : List Settled) × (done ≡ settled_amid held (lent_of s.before) ++ others)
@@ -154,18 +180,18 @@ AreMet strict before held (s ∷ ss) done last = AreAllowed held (lent_of s.befo
     s.item others (λ now more. AreMet strict (tpdu_before s.item) now ss more last)
 
 -- the happenings at an end without a response at first, and what became of each that was given
-pub record ComesOf (strict : Bool) (happenings : List (Happening Giving)) (last : GivenState)
-    : Type 0 where
+pub record ComesOf (strict : Bool) (first : GivenState) (happenings : List (Happening Giving))
+    (last : GivenState) : Type 0 where
   pub stretches : List (Stretch Giving)
   pub current : List (Happening Giving)  -- since the last SW2 or reset
   pub part : List Character  -- of the TPDU in progress
   pub done : List Settled  -- before `current`
-  pub held : Option Held  -- where `current` begins
+  pub held : Holding  -- where `current` begins
   pub happenings_are : happenings ≡ flat_map happenings_of stretches ++ current
   pub are_items : AllByRecursion (λ s. IsItem s.item) stretches
   pub are_stretches : AllByRecursion IsStretch stretches
   pub is_part : IsPart part
   pub line_is : line_of current ≡ passed part
-  pub are_met : AreMet strict None None stretches done held
+  pub are_met : AreMet strict None (Empty first.settled) stretches done held
   pub are_allowed : AreAllowed held (lent_of current)
-  pub last_is : last.given ≡ answer_in (held_after held (lent_of current))
+  pub last_is : IsHeld last (held_after held (lent_of current))

@@ -58,6 +58,7 @@ pub fn the_line_leads_on_after_lending()
 /// - Or it goes out for a whole command, which settles then.
 /// - Or a reset drops it, also amid its command, or it is taken back. Then nothing settles.
 /// - A TPDU for which none is held is no command, or has status `6581`.
+/// - `Given::has_settled` tells whether the response that was given last has settled.
 ///
 /// `at_most` is about `Given`. It also lets a command be `6581` while a response is held, which
 /// then stays for a later one. Only a card that judges a header twice before SW2 does that. No end
@@ -67,10 +68,10 @@ pub fn each_response_goes_out_once()
         (prepared : Prepared (CardState GivenState)) (stage : Stage) →
         first.left ≡ Nothing_left → first.app.given ≡ None →
         LeadsLent (Does takes_data Answers) (after_reset after_drop) Lends first hs last
-        prepared stage → ComesOf false hs last.app }
+        prepared stage → ComesOf false first.app hs last.app }
     ensures once { (first last : CardState GivenState) (hs : List (Happening Giving))
         (prepared : Prepared (CardState GivenState)) (stage : Stage) →
         first.left ≡ Nothing_left → first.app.given ≡ None →
         LeadsLent (Does takes_data (AnswersBy true)) (after_reset after_drop) Lends first hs last
-        prepared stage → ComesOf true hs last.app }
+        prepared stage → ComesOf true first.app hs last.app }
 {}

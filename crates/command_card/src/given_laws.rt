@@ -53,8 +53,9 @@ pub fn the_line_leads_on_after_lending()
 /// pending and none given.
 ///
 /// - A response is given only if none is held.
-/// - It goes out for the command that was shown when it was given, in the same direction. That
-///   command settles once it gets SW2.
+/// - It goes out for the command that `wanted_next` showed when it was given, in the same
+///   direction. That command settles once it gets SW2. If none was shown, as before a whole TPDU,
+///   it is the first command that ends after it.
 /// - Or it goes out for a whole command, which settles then.
 /// - Or a reset drops it, also amid its command, or it is taken back. Then nothing settles.
 /// - A TPDU for which none is held is no command, or has status `6581`.

@@ -681,6 +681,7 @@ def table_cases():
         *story_cases("logs.cases", "shown"),
         *story_cases("loose.cases", "shown"),
         *story_cases("forms.cases", "shown"),
+        *story_cases("damaged.cases", "shown"),
         *story_cases("commands.cases", "shown"),
         *story_cases("json.cases", "json"),
         *story_cases("blocks.cases", "shown"),

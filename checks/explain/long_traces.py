@@ -56,13 +56,13 @@ def log_answers():
 
 
 def long_logs():
-    """Logs whose form follows from the first 64 lines. Those end with an answer, in an answer, and
+    """Logs whose form follows from the first 256 lines. Those end with an answer, in an answer, and
     before the first answer."""
     given = ["-> 00CA5F2003", "<- 9000: 4a4f45", *["-> 00CA5F2000", "<- 6a88:"] * 100]
     titles = [f"#{it + 1} GET DATA of 5F20  (line {2 * it + 1})" for it in range(101)]
     yield "a long log", [], given, titles, "form: pysim\n"
     answer = " <= 41 42 43 44 45 46 47 48 49 41 42 43 44 45 46 47"
-    for notes, count in ((2, 30), (63, 1)):
+    for notes, count in ((2, 120), (255, 1)):
         given = ["cm"] * notes + [" => 00 CA 5F 22 12", answer, "    48 49 90 00"] * count
         given = [f"{line:63}" for line in given]
         titles = [f"#{it + 1} GET DATA of 5F22  (line {3 * it + notes + 1})" for it in range(count)]
@@ -71,10 +71,10 @@ def long_logs():
 
 
 def heads():
-    """A log whose first line is among the first 64 lines and 65,536 bytes, or right behind them.
-    The lines before end with 1,024 bytes, and a program that reads as many at once sees no more."""
+    """A log whose first line is among the first 256 lines and 65,536 bytes, or right behind them.
+    The lines before end with 4,096 bytes, and a program that reads 1,024 at once sees no more."""
     log = ["C-APDU: 00CA5F2003", "R-APDU: 4A4F459000"]
-    for is_found, notes in ((True, ["n" * 15] * 62 + ["n" * 31]), (False, ["n" * 15] * 64),
+    for is_found, notes in ((True, ["n" * 15] * 254 + ["n" * 31]), (False, ["n" * 15] * 256),
                             (True, ["n" * 65_000]), (False, ["n" * 65_535])):
         place = len(notes) + 1
         shown = [f"| {line[it:it + 96]}" for line in notes for it in range(0, len(line), 96)]

@@ -94,14 +94,14 @@ with_mark m t = record t { is_loose = m.is_loose; line = m.line }
 
 pub exchanged_is : (loose : Mark) (command answer : List ℕ) (t : Tpdu) → IsPair command answer t
     → exchanged loose command answer ≡ with_mark loose (report_of t) ∷ []
-exchanged_is loose command answer t (c, is, r, ok) =
+exchanged_is loose command answer t (c, is, r, ok, few) =
     let header : t.header.items ≡ c.header = r.header_is in
     let tally : t.tally ≡ uncounted = r.tally_is in
     let way : t.way ≡ way_of c.sent (data_in answer) = r.way_is in
     let moved : t.moved.items ≡ moved_of c.sent (data_in answer) = r.moved_is in
     let status : t.status.items ≡ status_in answer = r.status_is in
     let next : t.answer.items ≡ beside c.sent (data_in answer) = r.beside_is in
-    rw (is, ok) (cc)
+    rw (is, ok, few) (cc)
 
 -- An invalid command or answer has no report.
 exchanged_by : (loose : Mark) (command answer : List ℕ) → command_in command ≡ None
@@ -118,6 +118,7 @@ exchanged_none bad.Extended loose command answer h other =
 exchanged_none bad.Length loose command answer (four, short, none) other =
     exchanged_by loose command answer none
 exchanged_none bad.NoStatus loose command answer ((c, is), none) other = rw (is, none) refl
+exchanged_none bad.TooMany loose command answer (c, is, ok, many) other = rw (is, ok, many) refl
 exchanged_none bad.OutOfMemory loose command answer h other =
     absurd (let bad : false ≡ true = other in cc)
 

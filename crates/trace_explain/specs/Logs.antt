@@ -1,5 +1,5 @@
 -- A log of whole TPDUs or APDUs, line by line: which command has which answer.
-use Rattle.std.specs.Prelude.{◌≡◌, ◌<◌, ℕ, ◌+◌, ◌-◌, List, [], ◌∷◌, ◌++◌, take, drop, length, map, slice_index, Option, Some, None, Bool, true, false, ◌==◌, ◌&&◌, nat_lt, nat_le, if◌then◌else◌}
+use Rattle.std.specs.Prelude.{◌≡◌, ◌<◌, ℕ, ◌+◌, ◌-◌, List, [], ◌∷◌, ◌++◌, take, drop, length, map, slice_index, Option, Some, None, Bool, true, false, ◌==◌, ◌&&◌, ◌||◌, nat_lt, nat_le, if◌then◌else◌}
 use Rattle.t0_core.specs.declared.direction.Direction.{Direction}
 use Rattle.t0_core.specs.declared.direction.Direction.TheVariants.{ToCard, FromCard}
 use Rattle.t0_core.specs.declared.end.End.{End}
@@ -17,8 +17,8 @@ use Rattle.trace_explain.specs.declared.read.trace_line.LineFault.{LineFault}
 use Rattle.trace_explain.specs.declared.read.trace_line.LineFault.TheVariants as bad
 use Rattle.trace_explain.specs.Noted.{are_status}
 use Rattle.trace_explain.specs.Pairs.{status_in}
-use Rattle.trace_explain.specs.Patterns.{Found, Marked, ReadsAs, BadRow, all_of, reads}
-use Rattle.trace_explain.specs.Times.{behind_time}
+use Rattle.trace_explain.specs.Patterns.{Found, Marked, ReadsAs, BadRow, NoRow, all_of, is_digits, reads}
+use Rattle.trace_explain.specs.Times.{behind_spaces, behind_time}
 use Rattle.trace_explain.specs.WaysOf.{by_standard}
 
 -- What an entry says.
@@ -67,15 +67,23 @@ opens from m = if nat_lt 0 m.count then going.Dump from m.count
     else line_if (m.goes_on && (length m.bytes == 16)) from
 
 -- The state of a log between two lines: what the next one may continue, with its bytes so far and
--- those behind them. If the last command has no answer yet, that too.
+-- those behind them. If the last command has no answer yet, that too. And whether the last line has
+-- bytes.
 pub record LogAt : Type 0 where
   pub pending : Open
   pub bytes : List ℕ
   pub status : List ℕ
   pub command : Option (List ℕ)
+  pub has_bytes : Bool
 
 abbrev pub at_first : LogAt
-at_first = record { pending = going.Nothing; bytes = []; status = []; command = None }
+at_first = record {
+  pending = going.Nothing;
+  bytes = [];
+  status = [];
+  command = None;
+  has_bytes = false;
+}
 
 abbrev pub command_at : Log → Option (List ℕ)
 command_at l = elim l.command [ None ↦ None | Some command ↦ Some command.items ]
@@ -86,6 +94,7 @@ log_at l = record {
   bytes = l.bytes.items;
   status = l.status.items;
   command = command_at l;
+  has_bytes = l.has_bytes;
 }
 
 -- An answer belongs to the last command, if there is one.
@@ -99,8 +108,11 @@ unanswered None = []
 unanswered (Some command) = Unanswered command ∷ []
 
 abbrev pub without_command : LogAt → LogAt
-without_command at =
-    record { pending = at.pending; bytes = at.bytes; status = at.status; command = None }
+without_command at = record at { command = None }
+
+-- The last line has bytes, or none.
+abbrev pub with_line : Bool → LogAt → LogAt
+with_line has_bytes at = record at { has_bytes = has_bytes }
 
 -- What a step adds, and the state after it.
 pub record Step : Type 0 where
@@ -113,8 +125,13 @@ answered at answer =
 
 -- What is pending has ended.
 abbrev pub closed_at : LogAt → Option (List ℕ) → LogAt
-closed_at at command =
-    record { pending = going.Nothing; bytes = []; status = []; command = command }
+closed_at at command = record {
+  pending = going.Nothing;
+  bytes = [];
+  status = [];
+  command = command;
+  has_bytes = at.has_bytes;
+}
 
 abbrev pub closed : LogAt → End → Step
 closed at end.Terminal =
@@ -128,6 +145,7 @@ with_bytes at m next = record {
   bytes = at.bytes ++ m.bytes;
   status = at.status ++ m.status;
   command = at.command;
+  has_bytes = true;
 }
 
 abbrev pub continued : LogAt → End → Marked → Open → Step
@@ -146,7 +164,10 @@ abbrev pub begun : LogAt → Step
 begun at = record { gives = unanswered at.command ++ Begins ∷ []; at = without_command at }
 
 abbrev pub resets : LogAt → Step
-resets at = record { gives = unanswered at.command ++ Reset ∷ []; at = without_command at }
+resets at = record {
+  gives = unanswered at.command ++ Reset ∷ [];
+  at = with_line false (without_command at);
+}
 
 -- The first bytes of a command or an answer.
 abbrev pub started : LogAt → End → Marked → Step
@@ -168,23 +189,36 @@ command_len bytes = if nat_lt (length bytes) 5 then length bytes
     else len_with (by_standard (slice_index bytes 0) (slice_index bytes 1)) (slice_index bytes 4)
     (length bytes)
 
-abbrev pub both : LogAt → List ℕ → Step
-both at bytes = record {
-  gives = (begun at).gives
-      ++ Pair (take (command_len bytes) bytes) (drop (command_len bytes) bytes) ∷ [];
-  at = without_command at;
+abbrev pub paired : LogAt → List ℕ → List ℕ → Step
+paired at command answer = record {
+  gives = (begun at).gives ++ Pair command answer ∷ [];
+  at = with_line true (without_command at);
 }
+
+abbrev pub both : LogAt → List ℕ → Step
+both at bytes =
+    paired at (take (command_len bytes) bytes) (drop (command_len bytes) bytes)
 
 -- What a line adds if nothing is pending, as its row says.
 abbrev pub noted : LogAt → Step
-noted at = record { gives = Note ∷ []; at = at }
+noted at = record { gives = Note ∷ []; at = with_line false at }
 
 abbrev pub switched : LogAt → Open → Step
-switched at next = record { gives = Note ∷ []; at = record at { pending = next } }
+switched at next = record {
+  gives = Note ∷ [];
+  at = with_line false (record at { pending = next });
+}
+
+-- Digits alone right behind a line with bytes, in a line of no row: the line before is cut.
+abbrev pub is_loose : Bool → List ℕ → ReadsAs → Bool
+is_loose has_bytes line NoRow = has_bytes
+    && (is_digits (behind_spaces line) || is_digits (behind_spaces (behind_time line)))
+is_loose has_bytes line other = false
 
 abbrev pub Takes : ReadsAs → LogAt → Step → Type 0
 Takes (Found form (saying.Sends from) m) at step = step ≡ started at from m
 Takes (Found form saying.Both m) at step = step ≡ both at (all_of m)
+Takes (Found form saying.Apart m) at step = step ≡ paired at m.bytes m.status
 Takes (Found form saying.Off m) at step = step ≡ switched at going.Off
 Takes (Found form saying.Reset m) at step = step ≡ resets at
 Takes (Found form saying.Atr m) at step = step ≡ behind (resets at).gives (noted (resets at).at)
@@ -199,11 +233,15 @@ TakesOff (Found form saying.Atr m) at step =
     step ≡ behind (resets at).gives (noted (resets at).at)
 TakesOff other at step = step ≡ noted at
 
+-- What the next line adds if nothing is pending.
+abbrev pub TakesFirst : Rows → LogAt → List ℕ → Step → Type 0
+TakesFirst rows at line step = Takes (read_log rows line) at step
+    × (is_loose at.has_bytes line (read_log rows line) ≡ false)
+
 -- What the next line adds if bytes are pending: more of them, or they have ended before.
 abbrev pub TakesRest : Option (Saying × Marked) → End → Rows → LogAt → List ℕ → Step → Type 0
 TakesRest None from rows at line step = (next : Step)
-    × Takes (read_log rows line) (closed at from).at next
-    × (step ≡ behind (closed at from).gives next)
+    × TakesFirst rows (closed at from).at line next × (step ≡ behind (closed at from).gives next)
 TakesRest (Some (says, m)) from rows at line step = step ≡ continued at from m (opens from m)
 
 -- What it adds to a dump with this many bytes left.
@@ -220,7 +258,7 @@ abbrev pub dumped_in : Rows → ℕ → List ℕ → Option Marked
 dumped_in rows left line = within_dump left (rest_in rows left line)
 
 abbrev pub TakesIn : Rows → Open → LogAt → List ℕ → Step → Type 0
-TakesIn rows going.Nothing at line step = Takes (read_log rows line) at step
+TakesIn rows going.Nothing at line step = TakesFirst rows at line step
 TakesIn rows going.Off at line step = TakesOff (read_log rows line) at step
 TakesIn rows (going.Line from) at line step =
     TakesRest (rest_in rows 0 line) from rows at line step
@@ -244,13 +282,20 @@ pub record IsTwofold (from : End) (says : Saying) (bytes : List ℕ) (more : Mar
   pub before : are_status (status_in bytes) ≡ true
   pub after : are_status (status_in (bytes ++ more.bytes)) ≡ true
 
--- A line can't be read after these bytes if this is pending.
-abbrev pub IsBadRest : LineFault → End → List ℕ → Option (Saying × Marked) → ReadsAs → Type 0
-IsBadRest bad.Twofold from bytes (Some (says, m)) found = IsTwofold from says bytes m
-IsBadRest bad.TooLong from bytes (Some (says, m)) found = IsTooMuch bytes m.bytes
-IsBadRest bad.Hex from bytes None found = found ≡ BadRow
-IsBadRest bad.OutOfMemory from bytes rest found = Unit {0}
-IsBadRest other from bytes rest found = ⊥
+-- A line can't be read if nothing is pending.
+abbrev pub IsBadFirst : LineFault → Bool → List ℕ → ReadsAs → Type 0
+IsBadFirst bad.Hex has_bytes line found = found ≡ BadRow
+IsBadFirst bad.Loose has_bytes line found = is_loose has_bytes line found ≡ true
+IsBadFirst bad.OutOfMemory has_bytes line found = Unit {0}
+IsBadFirst other has_bytes line found = ⊥
+
+-- It can't be read after these bytes if they are pending.
+abbrev pub IsBadRest : LineFault → End → LogAt → Option (Saying × Marked) → List ℕ → ReadsAs → Type 0
+IsBadRest why from at None line found = IsBadFirst why at.has_bytes line found
+IsBadRest bad.Twofold from at (Some (says, m)) line found = IsTwofold from says at.bytes m
+IsBadRest bad.TooLong from at (Some (says, m)) line found = IsTooMuch at.bytes m.bytes
+IsBadRest bad.OutOfMemory from at (Some (says, m)) line found = Unit {0}
+IsBadRest other from at (Some (says, m)) line found = ⊥
 
 abbrev pub IsBadDump : LineFault → List ℕ → Option Marked → Type 0
 IsBadDump bad.Hex bytes dumped = dumped ≡ None
@@ -258,22 +303,17 @@ IsBadDump bad.TooLong bytes (Some m) = IsTooMuch bytes m.bytes
 IsBadDump bad.OutOfMemory bytes dumped = Unit {0}
 IsBadDump other bytes dumped = ⊥
 
-abbrev pub IsBadFirst : LineFault → ReadsAs → Type 0
-IsBadFirst bad.Hex found = found ≡ BadRow
-IsBadFirst bad.OutOfMemory found = Unit {0}
-IsBadFirst other found = ⊥
-
 abbrev pub IsNoMemory : LineFault → Type 0
 IsNoMemory bad.OutOfMemory = Unit {0}
 IsNoMemory other = ⊥
 
-abbrev pub IsBadIn : Rows → Open → List ℕ → LineFault → List ℕ → Type 0
-IsBadIn rows going.Nothing bytes why line = IsBadFirst why (read_log rows line)
-IsBadIn rows going.Off bytes why line = IsNoMemory why
-IsBadIn rows (going.Line from) bytes why line =
-    IsBadRest why from bytes (rest_in rows 0 line) (read_log rows line)
-IsBadIn rows (going.Dump from left) bytes why line =
-    IsBadDump why bytes (dumped_in rows left line)
+abbrev pub IsBadIn : Rows → Open → LogAt → LineFault → List ℕ → Type 0
+IsBadIn rows going.Nothing at why line = IsBadFirst why at.has_bytes line (read_log rows line)
+IsBadIn rows going.Off at why line = IsNoMemory why
+IsBadIn rows (going.Line from) at why line =
+    IsBadRest why from at (rest_in rows 0 line) line (read_log rows line)
+IsBadIn rows (going.Dump from left) at why line =
+    IsBadDump why at.bytes (dumped_in rows left line)
 
 -- What the end of a log adds.
 abbrev pub ended_in : Open → LogAt → List EntryOf

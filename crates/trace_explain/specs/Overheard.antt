@@ -15,7 +15,7 @@ use Rattle.t1_core.specs.Items.{Found, Cut}
 use Rattle.t1_core.specs.Reading.{fresh}
 use Rattle.trace_explain.specs.declared.follow.blocks.Blocks.{Blocks}
 use Rattle.trace_explain.specs.Noted.{are_status}
-use Rattle.trace_explain.specs.Pairs.{Command, beside, command_in, data_in, moved_of, status_in, way_of}
+use Rattle.trace_explain.specs.Pairs.{Command, asks_for, beside, command_in, data_in, le_of, moved_of, status_in, way_of}
 use Rattle.trace_explain.specs.declared.follow.tpdu.Mark.{Mark}
 use Rattle.trace_explain.specs.Reports.{Report, first_line, uncounted}
 
@@ -135,13 +135,14 @@ pair_report m c answer = record {
   line = m.line;
 }
 
-abbrev pub reports_in : Mark → Option Command → List ℕ → List Report
-reports_in m None answer = []
-reports_in m (Some c) answer =
-    if are_status (status_in answer) then pair_report m c answer ∷ [] else []
+abbrev pub reports_in : Mark → List ℕ → Option Command → List ℕ → List Report
+reports_in m command None answer = []
+reports_in m command (Some c) answer =
+    if are_status (status_in answer) && asks_for (le_of command c) (length (data_in answer))
+    then pair_report m c answer ∷ [] else []
 
 abbrev pub exchanged : Mark → List ℕ → List ℕ → List Report
-exchanged m command answer = reports_in m (command_in command) answer
+exchanged m command answer = reports_in m command (command_in command) answer
 
 -- the reports of the commands that get their response with this byte
 abbrev pub answered : Overheard → List Report

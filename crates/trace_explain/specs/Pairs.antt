@@ -1,5 +1,6 @@
 -- A command and its answer in a log of PC/SC, and the TPDU that they are.
-use Rattle.std.specs.Prelude.{◌≡◌, ◌≤◌, ◌<◌, ℕ, ◌+◌, ◌-◌, List, [], ◌∷◌, ◌++◌, take, drop, length, slice_index, Option, Some, None, Bool, true, false, ◌==◌, ◌&&◌, nat_lt, if◌then◌else◌}
+use Rattle.std.specs.Prelude.{◌≡◌, ◌≤◌, ◌<◌, ℕ, ◌+◌, ◌-◌, List, [], ◌∷◌, ◌++◌, take, drop, length, slice_index, Option, Some, None, Bool, true, false, ◌==◌, ◌&&◌, nat_le, nat_lt, if◌then◌else◌}
+use Rattle.apdu_core.specs.StatusWord.{count}
 use Rattle.t0_core.specs.declared.direction.Direction.{Direction}
 use Rattle.t0_core.specs.declared.direction.Direction.TheVariants.{ToCard, FromCard}
 use Rattle.trace_explain.specs.declared.follow.pair.PairFault.{PairFault}
@@ -73,11 +74,20 @@ abbrev pub IsCommand : List ℕ → Tpdu → Type 0
 IsCommand command t =
     (c : Command) × (command_in command ≡ Some c) × ReportsPair c [] [] t
 
--- The TPDU of a command with its answer.
+-- How many bytes a command asks for at most, if it has Le: in five bytes that is P3, and 00 is 256.
+abbrev pub le_of : List ℕ → Command → Option ℕ
+le_of command c = if length command == 5 then Some (slice_index command 4) else c.le
+
+abbrev pub asks_for : Option ℕ → ℕ → Bool
+asks_for None came = true
+asks_for (Some le) came = nat_le came (count le)
+
+-- The TPDU of a command with its answer, which has no more data than Le asks for.
 abbrev pub IsPair : List ℕ → List ℕ → Tpdu → Type 0
 IsPair command answer t = (c : Command) × (command_in command ≡ Some c)
     × ReportsPair c (data_in answer) (status_in answer) t
     × (are_status (status_in answer) ≡ true)
+    × (asks_for (le_of command c) (length (data_in answer)) ≡ true)
 
 -- The pair is no TPDU, whatever memory there is.
 abbrev pub is_refusal : PairFault → Bool
@@ -91,6 +101,7 @@ IsBadCommand bad.Extended command = is_extended command ≡ true
 IsBadCommand bad.Length command =
     (4 ≤ length command) × (is_extended command ≡ false) × (command_in command ≡ None)
 IsBadCommand bad.NoStatus command = ⊥
+IsBadCommand bad.TooMany command = ⊥
 IsBadCommand bad.OutOfMemory command = Unit {0}
 
 abbrev pub IsBadRest : PairFault → List ℕ → ℕ → List ℕ → Type 0
@@ -98,8 +109,12 @@ IsBadRest bad.Length header p3 rest = with_p3 header p3 rest ≡ None
 IsBadRest bad.OutOfMemory header p3 rest = Unit {0}
 IsBadRest other header p3 rest = ⊥
 
--- Why a pair is refused: for its command, or because the answer does not end with a status.
+-- Why a pair is refused: for its command, or because the answer does not end with a status, or has
+-- more data than Le asks for.
 abbrev pub IsBadPair : PairFault → List ℕ → List ℕ → Type 0
 IsBadPair bad.NoStatus command answer =
     ((c : Command) × (command_in command ≡ Some c)) × (are_status (status_in answer) ≡ false)
+IsBadPair bad.TooMany command answer = (c : Command) × (command_in command ≡ Some c)
+    × (are_status (status_in answer) ≡ true)
+    × (asks_for (le_of command c) (length (data_in answer)) ≡ false)
 IsBadPair other command answer = IsBadCommand other command

@@ -254,6 +254,7 @@ pub data ReadsAs : Type 0 where
 abbrev pub has_bytes : Saying → Bool
 has_bytes (saying.Sends from) = true
 has_bytes saying.Both = true
+has_bytes saying.Apart = true
 has_bytes other = false
 
 abbrev pub commits : Row → Bool

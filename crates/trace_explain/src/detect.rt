@@ -13,10 +13,13 @@ use std::alloc::{AllocError, Global};
 use std::io::Read;
 
 /// The most lines that are read before the form is known.
-const LINES: usize = 64;
+const LINES: usize = 256;
 
 /// The most bytes of these, up to a last chunk.
 const BYTES: usize = 65_536;
+
+/// A form may refuse one command or answer for each of so many lines.
+const FEW: usize = 8;
 
 /// The layout of a try.
 const LAYOUT: Layout = Layout {
@@ -48,7 +51,8 @@ fn is_cut(head: &[u8]) -> bool {
 }
 
 /// Returns the forms of whole commands that read most of these lines, if characters at T=0 read
-/// fewer; or as many, and not without a fault. The first form in the table comes first.
+/// fewer; or as many, and not without a fault. The first form in the table comes first. If none
+/// reads them without a fault, those that refuse few commands or answers count.
 pub fn forms_of(
     alloc: Global,
     options: &Options<'_>,
@@ -65,7 +69,49 @@ pub fn forms_of(
             )?;
         }
     }
+    if found.is_empty() && !is_read {
+        return refusing_few(alloc, options, &forms, head, count);
+    }
     Ok(found)
+}
+
+/// Returns the forms of whole commands that read most of these lines, `least` or more, and refuse
+/// at most one command or answer for each `FEW` lines; any number if `least` is 0.
+fn refusing_few(
+    alloc: Global,
+    options: &Options<'_>,
+    forms: &Forms<'static>,
+    head: &[u8],
+    least: usize,
+) -> Result<Vec<&'static str>, FormsFault> {
+    let (mut most, mut found) = (least, Vec::new(alloc));
+    for form in &forms.forms {
+        if form.is_whole {
+            let tried = Options {
+                form: Some(form.name),
+                ..*options
+            };
+            let reading = tried.reading(alloc, forms)?;
+            let count = lines_read(alloc, &reading.rows, whole_lines(head))?;
+            let few = if least == 0 { count } else { count / FEW };
+            if count >= most && count > 0 && refuses_few(alloc, reading, head, few) {
+                if count > most {
+                    found.clear();
+                }
+                most = count;
+                found.push(form.name)?;
+            }
+        }
+    }
+    Ok(found)
+}
+
+/// Whether commands or answers are all that is refused of these lines, and at most `few`.
+fn refuses_few(alloc: Global, reading: Reading, head: &[u8], few: usize) -> bool {
+    match outcome_of(alloc, reading, head) {
+        Err(ExplainFault::BadPairs { complaints, .. }) => complaints <= few as u64,
+        _ => false,
+    }
 }
 
 /// Adds a form to those that read `most` lines if it reads as many, or in their place if it reads
@@ -111,14 +157,19 @@ fn read_by(
 
 /// Whether these lines have no fault. What is open where they are cut off may be whole behind it.
 fn is_read(alloc: Global, reading: Reading, head: &[u8]) -> bool {
-    let mask = Mask::none(alloc);
-    let mut explainer = Explainer::new(alloc, LAYOUT, "", mask, false, reading);
-    let mut line = Vec::new(alloc);
-    match explained(&mut explainer, head, &mut line) {
+    match outcome_of(alloc, reading, head) {
         Ok(()) => true,
         Err(ExplainFault::NothingWhole { .. }) => is_cut(head),
         Err(_) => false,
     }
+}
+
+/// Explains these lines with a reading of its own.
+fn outcome_of(alloc: Global, reading: Reading, head: &[u8]) -> Result<(), ExplainFault> {
+    let mask = Mask::none(alloc);
+    let mut explainer = Explainer::new(alloc, LAYOUT, "", mask, false, reading);
+    let mut line = Vec::new(alloc);
+    explained(&mut explainer, head, &mut line)
 }
 
 /// Explains these lines. If they are cut off, it leaves open what is open there.
@@ -150,8 +201,12 @@ fn lines_read(alloc: Global, rows: &Rows, lines: &[u8]) -> Result<usize, AllocEr
     Ok(count)
 }
 
-/// Returns these bytes up to the last LF, with it; all if they have no LF.
+/// Returns these first lines without one that is cut off: up to the last LF, with it; all if no more
+/// follow, or without LF.
 fn whole_lines(head: &[u8]) -> &[u8] {
+    if !is_cut(head) {
+        return head;
+    }
     for behind in 0..head.len() {
         let size = head.len() - behind;
         if head[size - 1] == b'\n' {

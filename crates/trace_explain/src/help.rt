@@ -122,7 +122,7 @@ and `RX -`. All lines have the form of the first sign. `--form` sets it before,
 by the terminal's sign, or by the names `angle`, `angles`, `arrow`, `double` and
 `QXDM`. The other forms are logs of whole TPDUs or APDUs, and exclude
 `--resume`; with `--tpdu` a form of signs has whole ones, too. Without an option
-about lines, the program tries each form on at most 64 lines. It takes the one
+about lines, the program tries each form on at most 256 lines. It takes the one
 that reads most of them without a fault, and names a log's form on standard
 error.
 

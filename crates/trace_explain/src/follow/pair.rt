@@ -1,6 +1,6 @@
 //! A command and its answer as one TPDU (ISO/IEC 7816-4, 5.1; ISO/IEC 7816-3, 12).
 ghost use Rattle.std.specs.Prelude.{◌≡◌, [], ◌∷◌, ◌++◌, Some, IfOk, IfErr, OnOk};
-ghost use Rattle.trace_explain.specs.Pairs.{Command, IsBadCommand, IsBadPair, IsBadRest, IsCommand, IsPair, ReportsPair, beside, command_in, is_refusal, moved_of, way_of, with_p3};
+ghost use Rattle.trace_explain.specs.Pairs.{Command, IsBadCommand, IsBadPair, IsBadRest, IsCommand, IsPair, ReportsPair, asks_for, beside, command_in, is_refusal, moved_of, way_of, with_p3};
 
 use crate::follow::tally::Tally;
 use crate::follow::tpdu::{Tpdu, are_status};
@@ -25,6 +25,9 @@ pub enum PairFault {
     /// The answer does not end with SW1 and SW2.
     #[error("an answer without SW1-SW2 at its end")]
     NoStatus,
+    /// The answer has more data than Le asks for.
+    #[error("an answer with more data than Le asks for")]
+    TooMany,
     /// Memory ran out.
     #[error("out of memory")]
     OutOfMemory,
@@ -66,6 +69,7 @@ pub fn tpdu_of_pair(alloc: Global, command: &[u8], answer: &[u8]) -> Result<Tpdu
 /// # Errors
 ///
 /// - `NoStatus`: the command is valid, and the answer does not end with a status.
+/// - `TooMany`: both are valid, and the answer has more data than Le asks for.
 /// - Others as for `take_command`.
 pub fn take_pair(tpdu: &mut Tpdu, command: &[u8], answer: &[u8]) -> Result<(), PairFault>
     ensures reports { OnOk result (IsPair command.now answer.now tpdu.new) }
@@ -73,11 +77,25 @@ pub fn take_pair(tpdu: &mut Tpdu, command: &[u8], answer: &[u8]) -> Result<(), P
 {
     let (brought, status) = answer.split_at(answer.len().saturating_sub(2));
     take(tpdu, command, brought, status)?;
-    if are_status(status) {
+    if !are_status(status) {
+        return Err(PairFault::NoStatus);
+    }
+    let le = match command {
+        [_, _, _, _, p3] => Some(*p3),
+        _ => tpdu.le,
+    };
+    if asks_for(le, brought.len()) {
         Ok(())
     } else {
-        Err(PairFault::NoStatus)
+        Err(PairFault::TooMany)
     }
+}
+
+/// Whether a command with this Le asks for `came` bytes, or has no Le.
+fn asks_for(le: Option<u8>, came: usize) -> bool
+    ensures { result ≡ asks_for le came }
+{
+    le.is_none_or(|le| came <= usize::from(count(le)))
 }
 
 /// Whether an answer looks like characters of T=0: after NULLs comes INS, alone or before as many

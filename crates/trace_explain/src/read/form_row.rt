@@ -14,6 +14,8 @@ pub enum Saying {
     Sends(End),
     /// A command, and behind it its answer.
     Both,
+    /// A command and its answer, in two fields.
+    Apart,
     /// The card was reset.
     Reset,
     /// The card was reset, and answered so.
@@ -106,7 +108,8 @@ impl Row {
     fn commits(&self) -> bool
         ensures { result ≡ commits self.now }
     {
-        matches!(self.says, Saying::Sends(_) | Saying::Both) && !self.head.is_empty()
+        matches!(self.says, Saying::Sends(_) | Saying::Both | Saying::Apart)
+            && !self.head.is_empty()
     }
 }
 

@@ -82,6 +82,9 @@ answer: < {short}
 form C-APDU: commands
 command: C-APDU: {bytes}
 answer: R-APDU: {bytes}
+form whole-angles: commands
+command: >> {bytes}
+answer: << {bytes}
 form sent: commands
 command: Sent APDU: {bytes}
 answer: Received APDU: {bytes}
@@ -262,7 +265,10 @@ fn row_of(alloc: Global, form: usize, line: &str) -> Result<Option<Row>, AllocEr
     let Some(says) = saying_of(kind) else {
         return Ok(None);
     };
-    let Some(parts) = parts_of(alloc, pattern.as_bytes())? else {
+    let Some(mut parts) = parts_of(alloc, pattern.as_bytes())? else {
+        return Ok(None);
+    };
+    let Some(says) = apart(says, parts.as_mut_slice()) else {
         return Ok(None);
     };
     let size = head_len(parts.as_slice()).min(parts.len());
@@ -274,6 +280,28 @@ fn row_of(alloc: Global, form: usize, line: &str) -> Result<Option<Row>, AllocEr
         head,
         tail,
     }))
+}
+
+/// Returns what a row with these parts says. In a row `both` with two fields of bytes the second is
+/// the answer's, and so are all statuses. `None` if there are more.
+fn apart(says: Saying, parts: &mut [Part]) -> Option<Saying> {
+    if !matches!(says, Saying::Both) {
+        return Some(says);
+    }
+    let mut fields = 0;
+    for part in parts {
+        if let Part::Bytes(stop) = *part {
+            fields += 1;
+            if fields == 2 {
+                *part = Part::Status(stop);
+            }
+        }
+    }
+    match fields {
+        0 | 1 => Some(says),
+        2 => Some(Saying::Apart),
+        _ => None,
+    }
 }
 
 /// What rows of each kind say.
@@ -313,6 +341,7 @@ fn parts_of(alloc: Global, pattern: &[u8]) -> Result<Option<Vec<Part>>, AllocErr
                 parts.push(part)?;
                 rest = behind;
             }
+            [b' ', b' ', ..] => rest = &rest[1..],
             [b' ', behind @ ..] => {
                 parts.push(Part::Gap)?;
                 parts.push(Part::Spaces)?;
@@ -320,7 +349,7 @@ fn parts_of(alloc: Global, pattern: &[u8]) -> Result<Option<Vec<Part>>, AllocErr
             }
             [byte, behind @ ..] => {
                 parts.push(Part::Is(*byte))?;
-                if byte.is_ascii_alphanumeric() && matches!(behind, [] | [b' ' | b'{', ..]) {
+                if byte.is_ascii_alphanumeric() && ends_word(behind) {
                     parts.push(Part::WordEnd)?;
                 }
                 rest = behind;
@@ -328,6 +357,14 @@ fn parts_of(alloc: Global, pattern: &[u8]) -> Result<Option<Vec<Part>>, AllocErr
         }
     }
     Ok(Some(parts))
+}
+
+/// Whether a word ends before this rest of a pattern. Digits of bytes may touch it.
+fn ends_word(behind: &[u8]) -> bool {
+    match behind {
+        [] | [b' ', ..] => true,
+        _ => behind.starts_with(b"{") && !behind.starts_with(b"{bytes}"),
+    }
 }
 
 /// Returns the part with this name, if its field ends so.

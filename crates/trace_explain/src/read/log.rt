@@ -2,17 +2,18 @@
 ghost use Rattle.std.specs.Prelude.{◌≡◌, ◌≤◌, ◌+◌, ◌++◌, ◌∷◌, [], None, Some, IfErr, IfOk, OnOk, length, map, true};
 ghost use Rattle.trace_explain.specs.Noted.{are_status};
 ghost use Rattle.trace_explain.specs.Pairs.{status_in};
-ghost use Rattle.trace_explain.specs.Patterns.{all_of, marked_by};
+ghost use Rattle.trace_explain.specs.Patterns.{all_of, is_digits, marked_by};
+ghost use Rattle.trace_explain.specs.Times.{behind_spaces};
 ghost use Rattle.trace_explain.specs.declared.read.log.Open.TheVariants.{Nothing};
-ghost use Rattle.trace_explain.specs.Logs.{IsBadIn, IsTooMuch, IsNoMemory, IsTwofold, Step, Takes, TakesLogLine, TakesOff, Took, answered, at_first, begun, behind, both, closed, command_len, continued, ended, entry_of, given_up, left_of, len_with, log_at, noted, opens, read_log, rest_in, resets, started, switched};
+ghost use Rattle.trace_explain.specs.Logs.{IsBadFirst, IsBadIn, IsTooMuch, IsNoMemory, IsTwofold, Step, TakesFirst, TakesLogLine, TakesOff, Took, answered, at_first, begun, behind, both, closed, command_len, continued, ended, entry_of, given_up, left_of, len_with, log_at, noted, opens, paired, read_log, rest_in, resets, started, switched};
 
 use crate::follow::tpdu::are_status;
 use crate::instructions::instruction;
-use crate::read::digits::append;
+use crate::read::digits::{append, is_digits};
 use crate::read::entry::Entry;
 use crate::read::form_row::{Found, Rows, Saying, read_rows};
 use crate::read::pattern::Marks;
-use crate::read::time::cut_time;
+use crate::read::time::{behind_spaces, cut_time};
 use crate::read::trace_line::LineFault;
 use std::alloc::{AllocError, Global};
 use std::mem;
@@ -48,6 +49,8 @@ pub struct Log {
     status: Vec<u8>,
     command: Option<Vec<u8>>,
     has_begun: bool,
+    /// Whether the last line has bytes.
+    has_bytes: bool,
 }
 
 impl Log {
@@ -62,6 +65,7 @@ impl Log {
             status: Vec::new(alloc),
             command: None,
             has_begun: false,
+            has_bytes: false,
         }
     }
 
@@ -74,7 +78,7 @@ impl Log {
     ///
     /// # Errors
     ///
-    /// - `Hex`: the line can't be read. If something was open, it has ended before this line.
+    /// - `Hex`, `Loose`: the line can't be read. If something was open, it has ended before it.
     /// - `Twofold`, `TooLong`: the line may continue what is open, or exceeds the limit with it.
     ///   Nothing changes.
     /// - `OutOfMemory`: don't use the log any more.
@@ -86,8 +90,8 @@ impl Log {
     ) -> Result<(), LineFault>
         ensures takes { OnOk result ((step : Step) × TakesLogLine rows.now (log_at self.old)
             line.now step × Took step entries.old.items entries.new.items self.new) }
-        ensures refused { IfErr result (λ why. IsBadIn rows.now self.old.pending
-            self.old.bytes.items why line.now) }
+        ensures refused { IfErr result (λ why.
+            IsBadIn rows.now self.old.pending (log_at self.old) why line.now) }
     {
         match self.pending {
             Open::Nothing => self.take_line(rows, line, entries),
@@ -158,10 +162,11 @@ impl Log {
         entries: &mut Vec<Entry>,
     ) -> Result<(), LineFault>
         ensures takes { OnOk result ((next : Step)
-            × Takes (read_log rows.now line.now) (closed (log_at self.old) from).at next
+            × TakesFirst rows.now (closed (log_at self.old) from).at line.now next
             × Took (behind (closed (log_at self.old) from).gives next) entries.old.items
             entries.new.items self.new) }
-        ensures refused { IfErr result (λ why. IsBadIn rows.now Nothing [] why line.now) }
+        ensures refused { IfErr result (λ why.
+            IsBadFirst why self.old.has_bytes line.now (read_log rows.now line.now)) }
     {
         self.close(from, entries)?;
         self.take_line(rows, line, entries)
@@ -175,16 +180,23 @@ impl Log {
         entries: &mut Vec<Entry>,
     ) -> Result<(), LineFault>
         ensures takes { OnOk result ((step : Step)
-            × Takes (read_log rows.now line.now) (log_at self.old) step
+            × TakesFirst rows.now (log_at self.old) line.now step
             × Took step entries.old.items entries.new.items self.new) }
-        ensures refused { IfErr result (λ why. IsBadIn rows.now Nothing [] why line.now) }
+        ensures refused { IfErr result (λ why.
+            IsBadFirst why self.old.has_bytes line.now (read_log rows.now line.now)) }
     {
         let (_, text) = cut_time(line);
         let found = read_rows(self.alloc, rows.first.as_slice(), 0, text)?;
         match found {
+            Found::Other if self.has_bytes && (are_digits(line) || are_digits(text)) => {
+                Err(LineFault::Loose)
+            }
             Found::Row(_, Saying::Off, _) => Ok(self.switch(Open::Off, entries)?),
             Found::Row(_, Saying::Sends(from), marks) => Ok(self.take_first(from, marks, entries)?),
             Found::Row(_, Saying::Both, marks) => Ok(self.take_both(marks, entries)?),
+            Found::Row(_, Saying::Apart, marks) => {
+                Ok(self.pair(marks.bytes, marks.status, entries)?)
+            }
             Found::Row(_, Saying::Reset, _) => Ok(self.reset(entries)?),
             Found::Row(_, Saying::Atr, _) => Ok(self.take_atr(entries)?),
             Found::Unread => Err(LineFault::Hex),
@@ -218,6 +230,7 @@ impl Log {
                 _,
                 Saying::Sends(_)
                 | Saying::Both
+                | Saying::Apart
                 | Saying::Rest
                 | Saying::Perhaps
                 | Saying::Note
@@ -250,10 +263,25 @@ impl Log {
         ensures { OnOk result (Took (both (log_at self.old) (all_of (marked_by marks)))
             entries.old.items entries.new.items self.new) }
     {
-        self.has_begun = true;
-        self.begin(entries)?;
         let mut command = marks.all()?;
         let answer = command.split_off(command_len(command.as_slice()))?;
+        self.pair(command, answer, entries)
+    }
+
+    /// Takes a command with its answer.
+    #[tactic(auto, using(crate::proofs::LogLemmas::pair_took))]
+    fn pair(
+        &mut self,
+        command: Vec<u8>,
+        answer: Vec<u8>,
+        entries: &mut Vec<Entry>,
+    ) -> Result<(), AllocError>
+        ensures { OnOk result (Took (paired (log_at self.old) command.items answer.items)
+            entries.old.items entries.new.items self.new) }
+    {
+        self.has_begun = true;
+        self.begin(entries)?;
+        self.has_bytes = true;
         push(entries, Entry::Pair(command, answer))
     }
 
@@ -263,6 +291,7 @@ impl Log {
             entries.new.items self.new) }
     {
         self.cut_off(entries)?;
+        self.has_bytes = false;
         push(entries, Entry::Reset)
     }
 
@@ -277,10 +306,11 @@ impl Log {
     }
 
     /// Takes a note.
-    fn note(&self, entries: &mut Vec<Entry>) -> Result<(), AllocError>
-        ensures { OnOk result (Took (noted (log_at self.now)) entries.old.items entries.new.items
-            self.now) }
+    fn note(&mut self, entries: &mut Vec<Entry>) -> Result<(), AllocError>
+        ensures { OnOk result (Took (noted (log_at self.old)) entries.old.items entries.new.items
+            self.new) }
     {
+        self.has_bytes = false;
         push(entries, Entry::Note)
     }
 
@@ -290,6 +320,7 @@ impl Log {
             entries.new.items self.new) }
     {
         self.pending = next;
+        self.has_bytes = false;
         push(entries, Entry::Note)
     }
 
@@ -307,6 +338,7 @@ impl Log {
         append(&mut self.bytes, marks.bytes)?;
         append(&mut self.status, marks.status)?;
         self.pending = next;
+        self.has_bytes = true;
         match next {
             Open::Nothing => self.close(from, entries),
             Open::Line(_) | Open::Dump(..) | Open::Off => Ok(()),
@@ -334,7 +366,8 @@ impl Log {
     fn cut(&mut self) -> Vec<u8>
         ensures bytes { result.items ≡ self.old.bytes.items }
         ensures left { (self.new.pending ≡ Nothing) × (self.new.bytes.items ≡ [])
-            × (self.new.status ≡ self.old.status) × (self.new.command ≡ self.old.command) }
+            × (self.new.status ≡ self.old.status) × (self.new.command ≡ self.old.command)
+            × (self.new.has_bytes ≡ self.old.has_bytes) }
     {
         self.pending = Open::Nothing;
         mem::replace(&mut self.bytes, Vec::new(self.alloc))
@@ -464,6 +497,13 @@ fn len_with(way: Option<Direction>, p3: u8, all: usize) -> usize
         Some(Direction::FromCard) => 5,
         None => { if p3 == 0 { 5 } else { all } }
     }
+}
+
+/// Whether a text has digits and spaces alone, and some digit.
+fn are_digits(text: &[u8]) -> bool
+    ensures { result ≡ is_digits (behind_spaces text.now) }
+{
+    is_digits(behind_spaces(text))
 }
 
 /// Whether an answer of these bytes ends with a status.

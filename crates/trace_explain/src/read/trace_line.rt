@@ -35,6 +35,9 @@ pub enum LineFault {
     /// In a log it follows an answer of 16 bytes. With it, and without it, that ends with a status.
     #[error("bytes that may continue the answer before, which is whole without them")]
     Twofold,
+    /// In a log it has digits alone, right behind a line with bytes, and continues none.
+    #[error("digits that continue no line: the line before may be cut")]
+    Loose,
     /// In a log it continues an answer or a dump that exceeds `READ_LIMIT` bytes.
     #[error("line too long")]
     TooLong,

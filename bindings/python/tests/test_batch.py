@@ -503,7 +503,8 @@ def test_a_row_is_decided_under_one_lock(tmp_path, monkeypatch):
     assert mine == [(fcntl.LOCK_EX, 1, 0), "written", (fcntl.LOCK_UN, 1, 0)]
 
 
-def test_a_table_as_a_spreadsheet_writes_it(tmp_path):
+@pytest.mark.parametrize(("first", "between"), [("", ","), ("sep=,\r\n", ","), ("sep=;\r\n", ";")])
+def test_a_table_as_a_spreadsheet_writes_it(tmp_path, first, between):
     room = Room(tmp_path, 2)
     text = '\ufeff"name","code",\r\n"PERSON 1","00000001",\r\n\r\nPERSON 2,00000002,more\r\n'
     (tmp_path / "rows.csv").write_bytes(text.encode())

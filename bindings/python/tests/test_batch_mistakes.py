@@ -2,6 +2,7 @@
 line that is printed. No line shows a value of the table."""
 
 import pytest
+from galliumtoad.batch.script import Script
 from room import SCRIPT, Room, main_of, refused
 
 HEX = "select A0000000031010\nput 9F36 {code}\n"
@@ -45,6 +46,26 @@ SCRIPTS = [
     ("send 00\n", "1: `send`: command: command too short"),
     ("put 50 @photo\n", "1: `put`: value: no file: No such file or directory"),
 ]
+# A format of a column, and cells that have it.
+FITTING = [
+    ("hex", "0a0B", "00"), ("hex 4", "0001", "aBcD"), ("digits", "0", "007"),
+    ("digits 16", "0123456789012345"), ("text", "JOE", "E10", "1.5", "E+10", "1E+10 ml", "-"),
+    ("text 26", "A" * 26, chr(0xC5) * 26, "J"), ("date", "2026-12-31", "2028-02-29"),
+    ("date YYMMDD", "261231", "010101"), ("date YYYYMMDD", "20261231"), ("date YYMM", "2612"),
+    ("date DD.MM.YYYY", "31.12.2026"), ("date MM/YY", "12/26"), ("date YY-MM", "26-12"),
+]
+# And cells that don't. A spreadsheet shortens a number, and drops zeros before it.
+SHORT = "a number that a spreadsheet has shortened"
+UNFIT = [
+    ("hex", "0x12"), ("hex", "1.0E+10"), ("hex", "1G"), ("hex", ""), ("hex 4", "001"),
+    ("hex 4", "00001"), ("hex 4", "00 1"), ("digits", "12A"), ("digits", ""), ("digits", "-1"),
+    ("digits 16", "123456789012345"), ("digits 16", "1.23457E+15"), ("digits 4", "1234 "),
+    ("digits 4", chr(0x661) * 4), ("digits 4", "1234\n"), ("text 26", "A" * 27),
+    ("date", "2026-02-29"), ("date", "31.12.2026"), ("date", "2026-1-1"), ("date", ""),
+    ("date YYMMDD", "261301"), ("date YYMMDD", "26 1 1"), ("date YYMMDD", "20261231"),
+    ("date YYMMDD", chr(0x661) * 6), ("date MM/YY", "13/26"), ("date DDDD", "3112"),
+]
+COLUMN = "`column` takes a name and a format: hex, digits, text or date, with its size"
 # What is wrong, the script, the table, more words, and the line that is printed after the program's
 # name. A script or table of None is right. `S` stands for `there are: 'Slot0..', 'Slot1..'`.
 MISTAKES = [
@@ -102,6 +123,32 @@ MISTAKES = [
      "script:3: 2 columns 'name': the table has 'name', 'code', 'name'"),
     ("other signs in between", "put 50 @{name}\n", "name|code\nA|00\n", "",
      "script:1: no column 'name': the table has 'name|code'"),
+    # formats
+    ("a lost zero", "column code digits 4\nput 50 {code}\n", "name,code\nA,0012\nB,12\n", "",
+     "rows.csv line 3, column 'code': 2 characters, not `digits 4`"),
+    ("a number in a text", "column name text 26\nput 50 @{name}\n", "name,code\n1.0E+10,A\n", "",
+     f"rows.csv line 2, column 'name': {SHORT}"),
+    ("a format of a column that is not written", "put 50 41\ncolumn name  date YYMMDD\n",
+     "name,code\n261301,A\n", "",
+     "rows.csv line 2, column 'name': 6 characters, not `date YYMMDD`"),
+    ("a format of no column", "column age date\nput 50 41\n", None, "",
+     "script:1: no column 'age': the table has 'name', 'code'"),
+    ("a format of two columns", "column name text\nput 50 41\n", "name,name\nA,B\n", "",
+     "script:1: 2 columns 'name': the table has 'name', 'name'"),
+    *((f"a line of a format: {it}", f"put 50 41\n{it}\n", None, "", f"script:2: {COLUMN}")
+      for it in ("column", "column name", "column name digit 4", "column name digits 0",
+                 "column name digits 4 4", "column name text YY", "column name date 6",
+                 "column name date YYMMDD x", "column name hex -1", "column name date YMD")),
+    ("formats alone", "column name text\n", None, "", "script has no operation"),
+    # a first line that names what is between cells
+    *((f"cells between {it!r}", None, f"sep={it}{end}name{it}code{end}A{it}0{end}", "",
+       "rows.csv line 3, column 'code': 1 digit, an odd number")
+      for it, end in ((";", "\r\n"), (",", "\n"), ("\t", "\n"), ("|", "\r\n"))),
+    ("other signs in a heading", "put 50 @{code}\n", "sep=;\na,b,c;name\nA;B\n", "",
+     "script:1: no column 'code': the table has 'a,b,c', 'name'"),
+    ("no heading", "put 50 @{code}\n", "sep=;\n", "", "rows.csv has no row"),
+    ("a heading that names nothing between cells", "put 50 @{code}\n", "sep=\nA\n", "",
+     "script:1: no column 'code': the table has 'sep='"),
     # the script
     *((f"script {at}", script, None, "", f"script:{line}")
       for at, (script, line) in enumerate(SCRIPTS)),
@@ -155,6 +202,29 @@ def test_a_mistake_is_named_before_any_card(tmp_path, mistake):
     line = line.replace("; S", f"; there are: '{room.names[0]}', '{room.names[1]}'")
     assert main_of(room, program[3:]) == refused(line)
     assert not room.held() and not (tmp_path / "journal").exists()
+
+
+@pytest.mark.parametrize(("form", "cell"), [(it[0], cell) for it in FITTING for cell in it[1:]])
+def test_a_cell_has_a_format(form, cell):
+    script = Script("script", f"column name {form}\nput 50 @{{name}}\n", ["name"])
+    wrong = [*script.wrong]
+    script.steps({"name": cell}, "here", wrong)
+    assert wrong == []
+
+
+@pytest.mark.parametrize(("form", "cell"), UNFIT)
+def test_a_cell_does_not_have_a_format(form, cell):
+    script, wrong = Script("script", f"column name {form}\nput 50 41\n", ["name"]), []
+    script.steps({"name": cell}, "here", wrong)
+    many = "1 character" if len(cell) == 1 else f"{len(cell)} characters"
+    assert script.wrong == [] and wrong == [f"here, column 'name': {many}, not `{form}`"]
+
+
+@pytest.mark.parametrize("cell", ["1.0E+10", "1E+10", "1,23457E+15", "-1.5E-7", "12.E+1"])
+def test_a_text_is_no_number_that_was_shortened(cell):
+    script, wrong = Script("script", "column name text\nput 50 @{name}\n", ["name"]), []
+    script.steps({"name": cell}, "here", wrong)
+    assert wrong == [f"here, column 'name': {SHORT}"]
 
 
 def test_check_of_one_row(tmp_path):

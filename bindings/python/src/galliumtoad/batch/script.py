@@ -6,7 +6,9 @@ import csv
 import functools
 import io
 import re
+from datetime import datetime
 from hashlib import blake2b
+from itertools import islice
 from pathlib import Path
 from typing import Any, Callable, Iterator, Mapping, NamedTuple, Optional
 
@@ -114,11 +116,38 @@ _KINDS: dict[str, tuple[Any, ...]] = {"select": (Select, identifier), "send": (S
 _KINDS |= {"get": (Get, tag), "put": (Put, tag, value)}
 
 
+# A line of a format: the column's name, and the format with its size or its form.
+_FORMAT = re.compile("column ([^ ]+) ((?:hex|digits|text)(?: [1-9][0-9]{0,4})?"
+                     "|date(?: (?:YYYY|YY|MM|DD|[-./])+)?)")
+_DAY = {"YYYY": "%Y", "YY": "%y", "MM": "%m", "DD": "%d"}
+_SHORTENED = re.compile("-?[0-9]+([.,][0-9]*)?E[+-][0-9]+")  # by a spreadsheet
+
+
+def misfit(cell: str, form: str) -> str:
+    """Returns why a cell does not have this format, or an empty text."""
+    kind, _, size = form.partition(" ")
+    if kind == "date":
+        wanted = re.sub("|".join(_DAY), lambda it: _DAY[it[0]], size or "YYYY-MM-DD")
+        try:
+            fits = datetime.strptime(cell, wanted).strftime(wanted) == cell
+        except (ValueError, re.error):  # a form may have a part twice
+            fits = False
+    elif kind == "text":
+        if _SHORTENED.fullmatch(cell):
+            return "a number that a spreadsheet has shortened"
+        fits = len(cell) <= int(size or len(cell))
+    else:
+        signs = "0-9" if kind == "digits" else "0-9A-Fa-f"
+        fits = bool(re.fullmatch(f"[{signs}]{{{size or '1,'}}}", cell))
+    return "" if fits else f"{counted(len(cell), 'character')}, not `{form}`"
+
+
 class Script:
-    """The operations of a file, one a line, and the mistakes in them."""
+    """The operations of a file, one a line, the formats of columns, and the mistakes in them."""
 
     def __init__(self, path: str, text: str, columns: list[str]) -> None:
         self.lines, self.wrong, self._columns = dict[int, list[str]](), list[str](), columns
+        self.formats = list[tuple[str, str]]()
         self._fixed = functools.cache(functools.partial(meaning, row={}))  # reads a file once
         for number, line in enumerate(text.replace("\r\n", "\n").split("\n"), 1):
             words = [it for it in line.split(" ") if it]
@@ -128,7 +157,14 @@ class Script:
 
     def _faults(self, number: int, words: list[str]) -> Iterator[str]:
         """Yields the mistakes of a line, and keeps its words if there are as many as it takes."""
-        if (first := words[0]) not in _KINDS:
+        if (first := words[0]) == "column":
+            if found := _FORMAT.fullmatch(" ".join(words)):
+                self.formats.append((found[1], found[2]))
+                yield from self._unknown(found[1])
+            else:
+                what = "hex, digits, text or date, with its size"
+                yield f"`column` takes a name and a format: {what}"
+        elif first not in _KINDS:
             yield f"`{first}` is no operation: it is one of {', '.join(_KINDS)}"
         elif len(words) != len(_KINDS[first]):
             yield f"`{first}` has {counted(len(words) - 1, 'word')}, not {len(_KINDS[first]) - 1}"
@@ -139,13 +175,20 @@ class Script:
                     _COLUMN.search(word) or self._fixed(reads, word)
                 except ValueError as error:
                     yield f"`{first}`: {reads.__name__}: {error}"
-                listed = ", ".join(map(repr, filter(None, self._columns))) or "no columns"
-                for it in [it for it in _COLUMN.findall(word) if self._columns.count(it) != 1]:
-                    what = f"{n} columns" if (n := self._columns.count(it)) else "no column"
-                    yield f"{what} '{it}': the table has {listed}"
+                for it in _COLUMN.findall(word):
+                    yield from self._unknown(it)
+
+    def _unknown(self, name: str) -> Iterator[str]:
+        """Yields the mistake of a name that is not that of one column."""
+        if (number := self._columns.count(name)) != 1:
+            what = f"{number} columns" if number else "no column"
+            listed = ", ".join(map(repr, filter(None, self._columns))) or "no columns"
+            yield f"{what} '{name}': the table has {listed}"
 
     def steps(self, row: Row, where: str, wrong: list[str]) -> list[Step]:
         """Returns the steps for a row, whose place is `where`. Adds its mistakes to `wrong`."""
+        faults = ((it, misfit(row[it], form)) for it, form in self.formats if it in row)
+        wrong += [f"{where}, column {it!r}: {fault}" for it, fault in faults if fault]
         steps = []
         for line, words in self.lines.items():
             made, (kind, *readers) = [], _KINDS[words[0]]
@@ -172,12 +215,14 @@ def check_of(steps: list[Step], key: str) -> str:
 
 
 def rows_of(path: str) -> tuple[list[str], dict[str, Row], list[str]]:
-    """Returns a table's columns, which its first line names, its rows by place, its mistakes."""
+    """Returns a table's columns, which its first line names, its rows by place, its mistakes. A
+    spreadsheet may write a line before it that names what is between cells."""
     text, columns, rows, wrong = read(path), list[str](), dict[str, Row](), list[str]()
-    between = max(",;\t", key=text.split("\n", 1)[0].count)
+    named = re.match(r"sep=([^\w\s\"]|\t)\r?\n", text)
+    between = named[1] if named else max(",;\t", key=text.split("\n", 1)[0].count)
     source = csv.reader(io.StringIO(text, ""), delimiter=between, strict=True)
     try:
-        columns, last = next(source, []), source.line_num
+        columns, last = next(islice(source, bool(named), None), []), source.line_num
         for cells in source:
             line, last = last + 1, source.line_num  # a quoted cell may contain lines
             if cells and len(cells) != len(columns):

@@ -2,6 +2,7 @@
 the program."""
 
 import argparse
+import binascii
 import contextlib
 import io
 import json
@@ -155,16 +156,16 @@ class Room:
     def start(self, *words, go=True):
         return self.start_program(self.words(*words, go=go))
 
-    def start_program(self, program):
+    def start_program(self, program, stdin=subprocess.DEVNULL):
         pipes = {"stdout": subprocess.PIPE, "stderr": subprocess.PIPE, "text": True}
-        pipes["stdin"] = subprocess.DEVNULL
+        pipes["stdin"] = stdin
         return subprocess.Popen(
             program, cwd=self.path, env=self.environment, start_new_session=True, **pipes
         )
 
-    def start_full(self, size, **how):
+    def start_full(self, size, *words, **how):
         """Starts a run whose files have at most this number of bytes."""
-        program = self.words(**how)
+        program = self.words(*words, **how)
         program[1:3] = ["-c", FULL.format(size)]
         return self.start_program(program)
 
@@ -185,11 +186,11 @@ class Room:
         table = place_of(str(self.path / "rows.csv"))
         create(str(self.path / "journal"), Heading(1, 1, id_tag, "00" * 16, table))
 
-    def opened(self, rows):
+    def opened(self, rows, *more):
         """The journal, in this process."""
         from galliumtoad.batch.journal import Journal
 
-        return Journal(str(self.path / "journal"), str(self.path / "rows.csv"), rows)
+        return Journal(str(self.path / "journal"), str(self.path / "rows.csv"), rows, *more)
 
     def desk(self, rows):
         """A run of this number of rows without an operation, which has not begun."""
@@ -206,6 +207,19 @@ class Room:
         """Waits until a row was begun, or has a line with another word."""
         file = self.path / "journal"
         wait_until(lambda: file.exists() and f"\n{word} " in file.read_text())
+
+    def lines(self, *texts):
+        """Lines that may follow in the journal: each ends in the sum of all texts up to it."""
+        before, made = "".join(it[:-9] for it in self.journal()), ""
+        for it in texts:
+            before += it
+            made += f"{it} {binascii.crc32(before.encode()):08x}\n"
+        return made
+
+    def add(self, *texts):
+        """Adds lines to the journal."""
+        with open(self.path / "journal", "a") as file:
+            file.write(self.lines(*texts))
 
     def events(self):
         """The first two words of each line of the journal."""

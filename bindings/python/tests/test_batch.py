@@ -24,12 +24,12 @@ CARDS = int(os.environ.get("CARDS", 250))
 KILLS = int(os.environ.get("KILLS", 10))
 
 # Holds the journal's lock for a while, and then takes the first row.
-HOLDS = """import fcntl, os, time
+HOLDS = """import fcntl, os, sys, time
 file = os.open("journal", os.O_RDWR | os.O_APPEND)
 fcntl.lockf(file, fcntl.LOCK_EX, 1, 0)
 print(flush=True)
 time.sleep(0.5)
-os.write(file, b"begin 1 2026-01-01T00:00:00+00:00 00 other\\n")
+os.write(file, sys.argv[1].encode())
 """
 
 
@@ -164,7 +164,8 @@ def journal_check(room, row):
 def test_a_row_is_taken_after_whoever_has_the_journal(tmp_path):
     room = Room(tmp_path, 2)
     room.create()
-    other = room.start_program([sys.executable, "-c", HOLDS])
+    line = room.lines("begin 1 2026-01-01T00:00:00+00:00 00 other")
+    other = room.start_program([sys.executable, "-c", HOLDS, line])
     assert other.stdout.readline() == "\n"
     assert room.opened(2).reserve() == 2
     assert other.wait() == 0
@@ -440,7 +441,11 @@ RIGHT = {"at": 1, "of": 1, "id_tag": None, "key": "00" * 16, "table": "rows.csv"
     "text",
     [b"name,code\nA,00", b"\xff\xfe", b"# rows of another table", b"# rows\n"]
     + [b"# galliumtoad.batch part 1/1\n", b"# galliumtoad.batcH part", b"a" * 70000]
-    + [f"# galliumtoad.batch {json.dumps({**RIGHT, name: it})}\n".encode() for name, it in WRONG],
+    + [b"# galliumtoad.batch " + b"[" * 60000 + b"\n"]
+    + [f"# galliumtoad.batch {json.dumps({**RIGHT, name: it})}\n".encode() for name, it in WRONG]
+    + [f"{first}{json.dumps(RIGHT)}{last}\n".encode()
+       for first, last in (("# galliumtoad.batcH ", ""), ("# galliumtoad.batch ", " "),
+                           ("# galliumtoad.batch ", " 00000000"), (" " * 20, ""))],
 )
 def test_another_file_is_no_journal_and_stays(tmp_path, text):
     """Nor does one hinder the journal beside it."""
@@ -477,14 +482,13 @@ def test_a_damaged_journal_is_refused(tmp_path, line):
     room, time = Room(tmp_path, 2), "2026-01-01T00:00:00+00:00"
     room.create()
     check = journal_check(room, 1)
-    whole = (tmp_path / "journal").read_text() + f"begin 1 {time} {check} A\n"
-    (tmp_path / "journal").write_text(whole)
+    room.add(f"begin 1 {time} {check} A")
     assert room.to_decide() == {1: "unsure"}
-    whole += line.replace("T", time) + f"\ndone 1 {time}"
-    (tmp_path / "journal").write_text(whole)
+    room.add(line.replace("T", time), f"done 1 {time}")
+    whole = (tmp_path / "journal").read_text()
     status, out, error = room.run()
     assert status == 2 and out == ""
-    assert "journal is damaged: no line of a journal, or no row of the table: " in error
+    assert "journal is damaged: line 3: no line of a journal, or no row of the table: " in error
     assert (tmp_path / "journal").read_text() == whole
 
 
@@ -506,8 +510,8 @@ def test_a_row_is_decided_under_one_lock(tmp_path, monkeypatch):
 @pytest.mark.parametrize(("first", "between"), [("", ","), ("sep=,\r\n", ","), ("sep=;\r\n", ";")])
 def test_a_table_as_a_spreadsheet_writes_it(tmp_path, first, between):
     room = Room(tmp_path, 2)
-    text = '\ufeff"name","code",\r\n"PERSON 1","00000001",\r\n\r\nPERSON 2,00000002,more\r\n'
-    (tmp_path / "rows.csv").write_bytes(text.encode())
+    text = '"name","code",\r\n"PERSON 1","00000001",\r\n\r\nPERSON 2,00000002,more\r\n'
+    (tmp_path / "rows.csv").write_bytes(f"\ufeff{first}{text.replace(',', between)}".encode())
     room.write("script", SCRIPT.replace("\n", "\r\n"))
     assert room.run()[0] == 0
     assert [room.cards_of(row) for row in (1, 2)] == [(1, 1)] * 2
@@ -595,7 +599,7 @@ def test_killed_at_random(tmp_path):
     # slow enough to leave rows for each kill
     room = Room(tmp_path, CARDS, readers=4, SLOW="0.015")
     at_random, kills, out = random.Random(7), 0, ""
-    while not out.endswith(f"{CARDS} of {CARDS} rows done, 0 to decide\n"):
+    while not out.endswith(f"{CARDS:,} of {CARDS:,} rows done, 0 to decide\n"):
         # the card that lies in a reader may have a row
         run = room.start(go=False)
         if kills < KILLS:

@@ -71,7 +71,7 @@ def test_again_writes_a_row_once_more_to_its_card(tmp_path):
 
 def test_without_an_identifier_the_program_says_so_at_its_start(tmp_path):
     room = Room(tmp_path, 1)
-    assert room.run()[1].startswith("starting: 0 of 1 rows done\n" + NOT_TOLD)
+    assert room.run()[1].startswith("starting: 0 of 1 row done\n" + NOT_TOLD)
     (tmp_path / "journal").unlink()
     assert "tell cards apart" not in room.run("--id=9F7F")[1]
 
@@ -175,7 +175,7 @@ def test_a_folder_that_moves_keeps_its_journal(tmp_path):
     assert room.run()[0] == 0
     (tmp_path / "before").rename(tmp_path / "after")
     room.path = tmp_path / "after"
-    assert room.run("--status")[:2] == (0, "1 of 1 rows done, 0 to decide\n")
+    assert room.run("--status")[:2] == (0, "1 of 1 row done, 0 to decide\n")
 
 
 def test_what_has_not_begun_may_change(tmp_path):
@@ -209,6 +209,5 @@ def test_rows_may_not_go_away(tmp_path):
     room = Room(tmp_path, 2)
     assert room.run()[0] == 0
     room.write("rows.csv", "name,code\nPERSON 1,00000001\n")
-    assert "journal is damaged: no line of a journal, or no row of the table: begin 2" in (
-        room.run("--status")[2]
-    )
+    why = "line 4: no line of a journal, or no row of the table: begin 2"
+    assert room.run("--status") == refused(f"journal is damaged: {why}")

@@ -309,7 +309,7 @@ def test_without_pyscard_one_line_names_the_package(tmp_path):
     assert room.run() == refused(line)
     assert not (tmp_path / "journal").exists()
     room.create()
-    assert room.run("--status")[:2] == (1, "0 of 1 rows done, 0 to decide\n")
+    assert room.run("--status")[:2] == (1, "0 of 1 row done, 0 to decide\n")
 
 
 @pytest.mark.parametrize(("words", "line"), [

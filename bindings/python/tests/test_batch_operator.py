@@ -82,7 +82,7 @@ def test_a_card_is_asked_for_once(tmp_path):
     (tmp_path / name / "out").unlink()
     out, error = ended(run)
     assert error == "" and out.count(f"{name}: insert a card for row 1\n") == 1
-    assert out.endswith("1 of 1 rows done, 0 to decide\n")
+    assert out.endswith("1 of 1 row done, 0 to decide\n")
 
 
 def test_a_reader_without_a_row_asks_for_no_card(tmp_path):

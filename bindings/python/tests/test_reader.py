@@ -181,7 +181,7 @@ def desk(tmp_path):
 def test_over_a_pcscd(desk):
     at_random, kills, begun = random.Random(11), 0, time.monotonic()
     desk.create(0x9F7F)
-    last = f"{CARDS} of {CARDS} rows done, 0 to decide\n"
+    last = f"{CARDS:,} of {CARDS:,} rows done, 0 to decide\n"
     outs, status = [], ""
     while status != last:
         kind = at_random.choice(["one"] * 8 + ["full", "two", "same"]) if kills < KILLS else "one"

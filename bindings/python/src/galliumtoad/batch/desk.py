@@ -24,7 +24,8 @@ from ..faults import CONTROLS
 from ..pyscard import transport
 from ..terminal import Put, Send, Terminal
 from .journal import Journal
-from .script import Recorder, Refused, Rows, carry_out, check_of, compared, identity, sentence
+from .script import (Recorder, Refused, Rows, carry_out, check_of, compared, counted, identity,
+                     sentence)
 
 FAILURES_IN_A_ROW = 5
 PAUSE = 1.0  # between two looks for a reader that went away, and two reports
@@ -105,7 +106,7 @@ class Desk:
             self.say(f"the dialogue of row {row} is lost: {error.strerror}")
         if next(self._failures) == self.given.stop_after:
             self.stopped.set()
-            self.say(f"stopped: {self.given.stop_after} rows failed")
+            self.say(f"stopped: {counted(self.given.stop_after, 'row')} failed")
 
     def run(self) -> None:
         """Serves the readers. Then waits for cards in progress, unless Ctrl-C was pressed twice."""
@@ -149,7 +150,8 @@ class Desk:
                 left = f", {(all_of - done) / rate:.0f} min left" if rate else ""
                 full = f"{'#' * (all_of and done * 20 // all_of):-<20}"
                 with self._alone:
-                    self._bar = f"[{full}] {done} of {all_of} rows, {rate:.0f} a minute{left}"
+                    of = counted(all_of, "row")
+                    self._bar = f"[{full}] {done:,} of {of}, {rate:.0f} a minute{left}"
                     print(f"{WIPE}{self._bar}", end="", flush=True)
         time.sleep(0.1)
         # A job in the background must not read, nor one of another session than its terminal.

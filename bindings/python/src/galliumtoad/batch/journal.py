@@ -1,7 +1,8 @@
 """The journal of a batch: which row of a table went to which card, and how it ended. Each line is
-on disk before the next step. A process takes a row under a lock on the file's byte 0, and holds it
-by a lock on the byte of the row's number; the system drops both if the process dies. The next
-line replaces one that a crash has cut: the step that it announces did not begin."""
+on disk before the next step, and ends in the CRC-32 of the texts of all lines up to it. A process
+takes a row under a lock on the file's byte 0, and holds it by a lock on the byte of the row's
+number; the system drops both if the process dies. The next line replaces one that a crash has cut:
+the step that it announces did not begin."""
 
 import contextlib
 import fcntl
@@ -9,9 +10,10 @@ import json
 import math
 import os
 import threading
+import zlib
 from dataclasses import asdict, dataclass, replace
 from datetime import datetime
-from typing import Iterator, Optional
+from typing import Iterator, NoReturn, Optional
 
 _MAGIC = "# galliumtoad.batch "
 # The state of a row after a line with this word. A begun row is unsure once its process is gone.
@@ -35,7 +37,7 @@ class Heading:
         return (self.at - at) % math.gcd(self.of, of) == 0
 
 
-@dataclass
+@dataclass(frozen=True)
 class Entry:
     """A row that has begun. `check` is the sum of what it writes. At first it ends as it begins."""
 
@@ -54,16 +56,44 @@ def place_of(table: str) -> str:  # a pipe has only its name
 
 def heading_of(path: str) -> Optional[Heading]:
     """Reads a file's first line, or returns None if it is not that of a journal."""
-    with contextlib.suppress(OSError, ValueError, TypeError), open(path, "rb") as file:
-        file.seek(0)  # not in a pipe, whose line may never come
-        line = file.readline(1 << 16).decode("ascii")  # other lines have the names of readers
-        if line.startswith(_MAGIC) and line.endswith("\n"):
-            found = Heading(**json.loads(line[len(_MAGIC) :]))
+    if not os.path.isfile(path):  # the line of a pipe may never come
+        return None
+    wrong = (OSError, ValueError, TypeError, RecursionError)
+    with contextlib.suppress(*wrong), open(path, "rb") as file:
+        line = file.readline(1 << 16).replace(b"\r\n", b"\n").decode("ascii")
+        if not line.startswith(_MAGIC):
+            return None
+        fields, end = json.JSONDecoder().raw_decode(line, len(_MAGIC))
+        if line[end:].encode() in (b"\n", _end_of(line[:end].encode(), 0)):
+            found = Heading(**fields)
             range(1, found.of + 1).index(found.at)  # each field has its type and its range
             _ = f"{found.at:d} {found.id_tag or 0:X}", bytes.fromhex(found.key)
             place = os.path.join(os.path.dirname(os.path.realpath(path)), found.table)
             return replace(found, table=os.path.normpath(place))
     return None
+
+
+def _end_of(text: bytes, before: int) -> bytes:
+    """Returns the end of a line of this text: the sum, after lines with the sum `before`."""
+    return b" %08x\n" % zlib.crc32(text, before)
+
+
+def refuse_without_locks(file: int, path: str) -> None:
+    """Takes the lock on a file. Raises `ValueError` if another process gets it too."""
+    none = ValueError(f"the disk of {path} has no locks: two runs could write one row")
+    try:
+        fcntl.lockf(file, fcntl.LOCK_EX, 1, 0)
+    except OSError:
+        raise none from None
+    if not (child := os.fork()):
+        try:
+            fcntl.lockf(os.open(path, os.O_RDWR), fcntl.LOCK_EX | fcntl.LOCK_NB, 1, 0)
+        except (BlockingIOError, PermissionError):
+            os._exit(0)
+        finally:
+            os._exit(1)
+    if os.waitpid(child, 0)[1]:
+        raise none
 
 
 def refuse_a_second(path: str, table: str, at: int, of: int) -> None:
@@ -82,7 +112,7 @@ def create(path: str, heading: Heading, only_looks: bool = False) -> None:
     place, table = os.path.realpath(path), heading.table
     folder, beside = os.path.dirname(place), os.path.dirname(table)
     with open(os.open(path, os.O_RDWR | os.O_CREAT, 0o600), "r+b") as file:
-        fcntl.lockf(file, fcntl.LOCK_EX, 1, 0)
+        refuse_without_locks(file.fileno(), path)
         begun = file.read(1 << 16).decode(errors="replace")
         if "\n" in begun or not _MAGIC.startswith(begun[: len(_MAGIC)]):
             raise ValueError(f"{path} exists: without --new the batch continues")
@@ -95,7 +125,8 @@ def create(path: str, heading: Heading, only_looks: bool = False) -> None:
             with contextlib.suppress(PermissionError):  # on a disk without links
                 os.symlink(place, link)
         named = replace(heading, table=os.path.relpath(table, folder))
-        _write(file.fileno(), f"{_MAGIC}{json.dumps(asdict(named))}\n".encode(), 0)
+        text = f"{_MAGIC}{json.dumps(asdict(named))}".encode()
+        _write(file.fileno(), text + _end_of(text, 0), 0)
     opened = os.open(folder, os.O_RDONLY)
     os.fsync(opened)
     os.close(opened)
@@ -110,19 +141,26 @@ def _write(file: int, line: bytes, place: int) -> None:
 
 class Journal:
     """Opens the journal of a table with the rows 1 to `rows`, for all threads. Nothing else in the
-    process may open the file: its end would drop the locks. A refused file does not change."""
+    process may open the file: its end would drop the locks. A refused file does not change, and
+    `only_looks` opens one that can't be written. `cards` has the row of a card, and since when."""
 
-    def __init__(self, path: str, table: str, rows: int) -> None:
-        self.path, self.rows, self.cards = path, dict[int, Entry](), dict[str, int]()
-        self._read, self._held, self._alone = 0, set[int](), threading.RLock()
+    def __init__(self, path: str, table: str, rows: int, only_looks: bool = False) -> None:
+        self.path, self.rows = path, dict[int, Entry]()
+        self.cards = dict[str, tuple[int, datetime]]()
+        self._held, self._alone = set[int](), threading.RLock()
+        # What was read: bytes, lines, and their sum. Earlier versions wrote no sums.
+        self._read, self._lines, self._sum, self._has_sums = 0, 0, 0, True
         if not os.path.exists(path):
             raise ValueError(f"there is no journal {path}: --new creates it")
-        self._file = os.open(path, os.O_RDWR)
+        self._lock = fcntl.LOCK_SH if only_looks else fcntl.LOCK_EX
+        self._file = os.open(path, os.O_RDONLY | os.O_NONBLOCK if only_looks else os.O_RDWR)
         if (found := heading_of(path)) is None:
             raise ValueError(f"{path} is not a journal: line 1 is no heading of one")
         if found.table != place_of(table):
             raise ValueError(f"{path} is the journal of the table {found.table}")
         self.heading, self.numbers = found, range(found.at, rows + 1, found.of)
+        if not only_looks:
+            refuse_without_locks(self._file, path)
         self.count("free")
 
     def reserve(self, wanted: Optional[int] = None) -> Optional[int]:
@@ -145,9 +183,9 @@ class Journal:
     def identify(self, row: int, card: str) -> int:
         """Writes the card of a row, unless the card has another row. Returns the card's row."""
         with self._locked():
-            if self.cards.get(card, row) == row:
+            if self.cards.get(card, (row,))[0] == row:
                 self._append(row, "card", card)
-            return self.cards[card]
+            return self.cards[card][0]
 
     def decide(self, row: int, word: str) -> None:
         """Writes `done` or `again`. Raises `ValueError` for a row that can't be decided."""
@@ -168,6 +206,11 @@ class Journal:
                 self.release(it)
             return found
 
+    def begun(self) -> tuple[dict[int, Entry], dict[str, tuple[int, datetime]]]:
+        """Returns the rows that have begun, and the cards, in copies that no thread changes."""
+        with self._locked():
+            return dict(self.rows), dict(self.cards)
+
     def state(self, row: int) -> str:
         return self.rows[row].state if row in self.rows else "free"
 
@@ -178,7 +221,7 @@ class Journal:
     def _hold(self, row: int) -> bool:  # unless any thread or process does
         with contextlib.suppress(OSError):
             if row not in self._held:
-                fcntl.lockf(self._file, fcntl.LOCK_EX | fcntl.LOCK_NB, 1, row)
+                fcntl.lockf(self._file, self._lock | fcntl.LOCK_NB, 1, row)
                 self._held.add(row)
                 return True
         return False
@@ -187,7 +230,7 @@ class Journal:
     def _locked(self) -> Iterator[None]:
         """Holds the lock on the file, after it read what other processes wrote."""
         with self._alone:
-            fcntl.lockf(self._file, fcntl.LOCK_EX, 1, 0)
+            fcntl.lockf(self._file, self._lock, 1, 0)
             try:
                 here = os.stat(self.path)
                 if not os.path.samestat(here, os.fstat(self._file)) or here.st_size < self._read:
@@ -198,34 +241,50 @@ class Journal:
                 fcntl.lockf(self._file, fcntl.LOCK_UN, 1, 0)
 
     def _catch_up(self) -> None:
-        text = os.pread(self._file, os.fstat(self._file).st_size - self._read, self._read)
-        whole = text[: text.rfind(b"\n") + 1]
-        for line in whole.replace(b"\r\n", b"\n").split(b"\n")[0 if self._read else 1 : -1]:
-            self._take_in(line.decode(errors="replace"))
-        self._read += len(whole)
+        size = os.fstat(self._file).st_size - self._read
+        *lines, rest = os.pread(self._file, size, self._read).split(b"\n")
+        for line in lines:
+            self._take_in(line.removesuffix(b"\r"))
+            self._read += len(line) + 1
+        if self._has_sums and rest[-10:-1] + b"\n" == _end_of(rest[:-10], self._sum):
+            self._fail("its end is wrong")
 
-    def _take_in(self, line: str) -> None:
-        word, number, time, note = [*line.split(" ", 3), "", "", "", ""][:4]
+    def _take_in(self, line: bytes) -> None:
+        """Reads the next line. Raises `ValueError` for a damaged one, which changes nothing."""
+        self._has_sums &= self._lines > 0 or not line.endswith(b"}")
+        text = line[:-9] if self._has_sums else line
+        if self._has_sums and line[len(text) :] + b"\n" != _end_of(text, self._sum):
+            self._fail("its sum is wrong")
+        if self._lines:
+            self._enter(text.decode(errors="replace"))
+        self._lines, self._sum = self._lines + 1, zlib.crc32(text, self._sum)
+
+    def _fail(self, what: str) -> NoReturn:
+        raise ValueError(f"{self.path} is damaged: line {self._lines + 1}: {what}")
+
+    def _enter(self, text: str) -> None:
+        word, number, time, note = [*text.split(" ", 3), "", "", "", ""][:4]
         try:
             row, at, state = int(number), datetime.fromisoformat(time), _STATES[word]
             is_begun = word == "begin" or row in self.rows
             if row not in self.numbers or not is_begun or at.tzinfo is None:
                 raise ValueError
         except (KeyError, ValueError):
-            what = f"no line of a journal, or no row of the table: {word} {number}"
-            raise ValueError(f"{self.path} is damaged: {what}") from None
+            self._fail(f"no line of a journal, or no row of the table: {word} {number}")
         if word == "begin":
-            self.rows[row] = Entry(*note.partition(" ")[::2], at, at)
+            self.rows[row] = Entry(*note.partition(" ")[::2], at, at, state)
         elif word == "card":
-            self.rows[row].card, self.cards[note] = note, row
+            self.rows[row] = replace(self.rows[row], card=note, state=state)
+            self.cards[note] = row, at
         else:
-            self.rows[row].ended, self.rows[row].reason = at, note
-        self.rows[row].state = state
+            self.rows[row] = replace(self.rows[row], ended=at, reason=note, state=state)
 
     def _append(self, row: int, word: str, note: str) -> None:
         time = datetime.now().astimezone().isoformat(timespec="milliseconds")
         line = f"{word} {row} {time} {' '.join(note.split())}".rstrip()
-        _write(self._file, f"{line}\n".encode(errors="backslashreplace"), self._read)
+        text = line.encode(errors="backslashreplace")
+        end = _end_of(text, self._sum) if self._has_sums else b"\n"
+        _write(self._file, text + end, self._read)
         self._catch_up()
         if word not in ("begin", "card"):
             self.release(row)

@@ -9,7 +9,7 @@ from . import report
 from ..faults import CONTROLS, number, program
 from ..handle import within
 from .journal import Heading, Journal, create, place_of, refuse_a_second
-from .script import Rows, check_of, steps_of, tag
+from .script import Rows, check_of, counted, steps_of, tag
 
 _ABOUT = "Personalises cards by the hundred: each card that is inserted gets one row of a table."
 _HELP = """In a script `@{column}` is a column's text, `{column}` its digits: put 5F20 @{name}. Of
@@ -29,7 +29,7 @@ def count(text: str) -> int:
 def parsed(words: Optional[list[str]]) -> argparse.Namespace:
     parser = argparse.ArgumentParser(prog="galliumtoad.batch", description=_ABOUT, epilog=_HELP)
     add = parser.add_argument
-    add("script", help="operations as gt_pcsc takes them, one a line")
+    add("script", help="operations as gt_pcsc takes them, or formats of columns, one a line")
     add("--rows", required=True, help="the table; its first line names the columns")
     add("--journal", action="append", required=True, help="begun rows; several with --status")
     add("--new", action="store_true", help="create the journal; refuse an old one; not by --check")
@@ -60,17 +60,20 @@ def parsed(words: Optional[list[str]]) -> argparse.Namespace:
 
 def finished(journals: list[Journal], path: Optional[str]) -> int:
     """Prints undecided rows and the sum, writes the report. Returns 0 if all are done, else 1."""
-    _, counts, all_of = report.joined(journals)
-    undecided = [it for journal in journals for it in journal.undecided().items()]
-    for row, it in undecided:
+    rows, lost, all_of = report.joined(journals)
+    left = lost.union(*(it.undecided() for it in journals))
+    undecided, done = left & rows.keys(), sum(it.state == "done" for it in rows.values())
+    for row in sorted(undecided):
+        it = rows[row]
         card = f"card {it.card}" if it.card else "a card without an id"
         when = it.begun.astimezone().strftime("%Y-%m-%d %H:%M:%S")
         why = it.reason or "the run ended before the row did"
         print(f"row {row} {it.state}: {card}, {it.reader}, {when}: {why}".translate(CONTROLS))
-        print(f"  --look {row} compares that card; then --done {row} or --again {row}")
+        then = f"--again {row}" if row in lost else f"--done {row} or --again {row}"
+        print(f"  --look {row} compares that card; then {then}")
     report.write(path, journals)
-    print(f"{counts['done']} of {all_of} rows done, {len(undecided)} to decide", flush=True)
-    return 0 if counts["done"] == all_of else 1
+    print(f"{done:,} of {counted(all_of, 'row')} done, {len(undecided)} to decide", flush=True)
+    return 0 if done == all_of else 1
 
 
 def start_lines(journal: Journal) -> Iterator[str]:
@@ -78,7 +81,8 @@ def start_lines(journal: Journal) -> Iterator[str]:
     left = [it.state for it in journal.undecided().values()]
     counts = "".join(f", {left.count(it)} {it}" for it in ("failed", "unsure") if it in left)
     begun = "continuing" if journal.rows else "starting"
-    yield f"{begun}: {journal.count('done')} of {len(journal.numbers)} rows done{counts}"
+    all_of = counted(len(journal.numbers), "row")
+    yield f"{begun}: {journal.count('done'):,} of {all_of} done{counts}"
     if journal.heading.id_tag is None:
         yield "without --id it can't tell cards apart: a card inserted twice gets two rows"
 
@@ -96,7 +100,8 @@ def opened(given: argparse.Namespace, rows: Rows) -> list[Journal]:
             create(path, heading, given.check)
         if given.check:
             return []
-    journals = [Journal(it, given.rows, len(rows)) for it in dict.fromkeys(given.journal)]
+    asks = bool(given.status or given.check or given.look) and not (given.done or given.again)
+    journals = [Journal(it, given.rows, len(rows), asks) for it in dict.fromkeys(given.journal)]
     for path, heading, begun in ((it.path, it.heading, it.rows) for it in journals):
         if given.part not in (None, (heading.at, heading.of)):
             raise ValueError(f"{path} is the journal of part {heading.at}/{heading.of}")
@@ -125,8 +130,7 @@ def work(given: argparse.Namespace) -> int:
         desk.chosen(given.reader)
     journals = opened(given, rows)
     if given.check:
-        many = "1 row" if len(rows) == 1 else f"{len(rows)} rows"
-        print(f"{many}, and no mistake", flush=True)
+        print(f"{counted(len(rows), 'row')}, and no mistake", flush=True)
         return 0
     if given.look:
         return desk.look(rows, journals[0], given)

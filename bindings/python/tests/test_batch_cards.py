@@ -7,8 +7,10 @@ import re
 import shutil
 
 import pytest
+from galliumtoad import Card, Select, Terminal
 from galliumtoad.batch.journal import Heading
-from room import SCRIPT, Room, listed, refused
+from galliumtoad.batch.script import Recorder, Refused, Script, carry_out, identity
+from room import AID, SCRIPT, Room, listed, refused, steps_of
 
 NOT_TOLD = "without --id it can't tell cards apart: a card inserted twice gets two rows\n"
 
@@ -30,6 +32,19 @@ def test_a_script_that_only_reads_knows_its_cards_too(tmp_path):
     assert status == 0 and out.count(f"card {room.id_of(0)} has row 1, which is done") == 2, out
     for number in range(3):
         assert f"row {number + 1} done, card {room.id_of(number)}, " in out
+
+
+def test_an_empty_identifier_is_none():
+    card = Card({AID: {0x9F7F: b""}})
+    why = "the card has no identifier 9F7F: it is empty"
+    with Terminal() as terminal:
+        terminal.run(card.tpdu, Select(AID))
+        with pytest.raises(Refused, match=why):
+            identity(terminal, card.tpdu, 0x9F7F)
+    steps = steps_of(Script("script", f"select {AID.hex()}\nput 50 41\n", []), {})
+    found = carry_out(steps, Recorder(card.tpdu), lambda it: identity(it, card.tpdu, 0x9F7F))
+    assert found == ("unused", why)
+    assert [it.tag for it in card.entries(AID)] == [0x9F7F]
 
 
 @pytest.mark.parametrize(("number", "state"), [(11, "failed"), (7, "unsure")])

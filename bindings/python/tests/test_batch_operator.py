@@ -460,6 +460,27 @@ def test_look_finds_what_a_card_holds(tmp_path):
     assert room.journal() == before
 
 
+def test_look_takes_the_whole_identifier(tmp_path):
+    """Neither its end nor its beginning."""
+    room = Room(tmp_path, 1, readers=0)
+    name = f"Slot-{os.getpid()}"
+    room.names = [f"A{name}", name]
+    room.add_reader(f"A{name}", 11)
+    assert room.run("--reader=ASlot", "--id=9F7F", "--stop-after=1")[0] == 1  # a worn card
+    wanted = room.id_of(11)
+    room.environment["LIES"] = "yes"
+    for reader, number in ((0, 1), (1, 11)):
+        for it in room.names:
+            (tmp_path / it).mkdir(exist_ok=True)
+            (tmp_path / it / "away").touch()
+        (tmp_path / room.names[reader] / "away").unlink()
+        room.put_in(room.names[reader], number)
+        other = room.id_of(number, reader)
+        assert wanted.startswith(other) or wanted.endswith(other)
+        why = f"this is card {other}, but row 1 is on card {wanted}"
+        assert room.run("--look=1", "--reader=Slot") == refused(why)
+
+
 def test_look_finds_a_whole_row_and_waits_for_its_card(tmp_path):
     room = Room(tmp_path, 1)
     assert room.run()[0] == 0

@@ -170,6 +170,22 @@ def test_a_clock_that_goes_back_makes_no_negative_time():
     assert times_of(rows) == [3.0, 4.0] and times_of([rows[1]]) == [0.0, 0.0]
 
 
+def test_a_decision_does_not_make_a_card_slow(tmp_path):
+    """The first row ended before it, and how long the second took is unknown."""
+    room, day = Room(tmp_path, 2), "2026-01-01T"
+    room.create()
+    room.add(f"begin 1 {day}10:00:00+00:00 00 Slot0", f"unsure 1 {day}10:00:02+00:00 pulled",
+             f"begin 2 {day}10:00:03+00:00 00 Slot0", f"done 1 {day}15:00:00+00:00 decided",
+             f"done 2 {day}15:00:00+00:00 decided")
+    for name in ("day.csv", "day.html"):
+        report.write(str(tmp_path / name), [room.opened(2)])
+    found = [[it[4], *it[5:]] for it in rows_of(tmp_path / "day.csv")]
+    assert found == [["2.0", "done", "decided"], ["", "done", "decided"]]
+    page = (tmp_path / "day.html").read_text()
+    assert "<p>a card took 2.0 s (median), 2.0 s at most</p>" in page
+    assert "<p>2 rows done, from 2026-01-01 10:00 +0000 to 2026-01-01 10:00 +0000</p>" in page
+
+
 def test_a_report_has_the_rows_in_their_order(tmp_path):
     """Not in that in which they began."""
     room, time = Room(tmp_path, 12), "2026-01-01T00:00:00+00:00"

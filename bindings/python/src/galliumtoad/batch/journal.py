@@ -19,6 +19,7 @@ _MAGIC = "# galliumtoad.batch "
 # The state of a row after a line with this word. A begun row is unsure once its process is gone.
 _STATES = {"begin": "unsure", "card": "unsure", "unsure": "unsure", "failed": "failed"}
 _STATES |= {"unused": "free", "again": "free", "done": "done"}
+_DECIDED = "decided"  # what follows the word of a person, who does not end a row
 
 
 @dataclass
@@ -195,7 +196,7 @@ class Journal:
                 raise ValueError(f"row {row} {what}")
             if not self._hold(row):
                 raise ValueError(f"row {row} is in progress")
-            self._append(row, word, "decided")
+            self._append(row, word, _DECIDED)
 
     def undecided(self) -> dict[int, Entry]:
         """Returns the failed and unsure rows that no process holds."""
@@ -277,7 +278,8 @@ class Journal:
             self.rows[row] = replace(self.rows[row], card=note, state=state)
             self.cards[note] = row, at
         else:
-            self.rows[row] = replace(self.rows[row], ended=at, reason=note, state=state)
+            ended = self.rows[row].ended if note == _DECIDED else at
+            self.rows[row] = replace(self.rows[row], ended=ended, reason=note, state=state)
 
     def _append(self, row: int, word: str, note: str) -> None:
         time = datetime.now().astimezone().isoformat(timespec="milliseconds")

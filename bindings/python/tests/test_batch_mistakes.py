@@ -126,6 +126,10 @@ MISTAKES = [
     # formats
     ("a lost zero", "column code digits 4\nput 50 {code}\n", "name,code\nA,0012\nB,12\n", "",
      "rows.csv line 3, column 'code': 2 characters, not `digits 4`"),
+    ("a lost zero, and an odd number", "column code digits 4\n" + HEX, "name,code\nA,012\n", "",
+     "rows.csv line 2, column 'code': 3 characters, not `digits 4`"),
+    ("two formats of a column", "column code text\ncolumn code digits 4\ncolumn code hex\n" + HEX,
+     "name,code\nA,012\n", "", "rows.csv line 2, column 'code': 3 characters, not `digits 4`"),
     ("a number in a text", "column name text 26\nput 50 @{name}\n", "name,code\n1.0E+10,A\n", "",
      f"rows.csv line 2, column 'name': {SHORT}"),
     ("a format of a column that is not written", "put 50 41\ncolumn name  date YYMMDD\n",

@@ -91,7 +91,7 @@ def test_the_package_stays_small():
     assert 300 < sum(len(code(it)) for it in files) <= 640
 
 
-@pytest.mark.parametrize(("names", "most"), [(SIMULATION, 1350), (["batch/*.py"], 1240)])
+@pytest.mark.parametrize(("names", "most"), [(SIMULATION, 1350), (["batch/*.py"], 1250)])
 def test_programs_stay_small(names, most):
     """Each function has fewer than 40 lines. Without docstrings and comments the simulation has
     920."""

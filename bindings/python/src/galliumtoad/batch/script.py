@@ -187,8 +187,9 @@ class Script:
 
     def steps(self, row: Row, where: str, wrong: list[str]) -> list[Step]:
         """Returns the steps for a row, whose place is `where`. Adds its mistakes to `wrong`."""
-        faults = ((it, misfit(row[it], form)) for it, form in self.formats if it in row)
-        wrong += [f"{where}, column {it!r}: {fault}" for it, fault in faults if fault]
+        cells = ((it, misfit(row[it], form)) for it, form in self.formats if it in row)
+        faults = {it: fault for it, fault in cells if fault}
+        wrong += [f"{where}, column {it!r}: {fault}" for it, fault in faults.items()]
         steps = []
         for line, words in self.lines.items():
             made, (kind, *readers) = [], _KINDS[words[0]]
@@ -198,7 +199,8 @@ class Script:
                     made.append(meaning(reads, word, row) if columns else self._fixed(reads, word))
                 except (KeyError, ValueError) as error:
                     named = f"column{'s' * (len(columns) > 1)} {', '.join(map(repr, columns))}"
-                    if columns and not isinstance(error, KeyError):  # the others are the script's
+                    is_known = isinstance(error, KeyError) or faults.keys() & columns
+                    if columns and not is_known:  # without columns it is the script's
                         wrong.append(f"{where}, {named}: {error}")
             if len(made) == len(readers):
                 shown = " ".join(words[:2] if words[0] in ("get", "put") else words[:1])

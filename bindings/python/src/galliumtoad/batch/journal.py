@@ -80,12 +80,9 @@ def _end_of(text: bytes, before: int) -> bytes:
 
 
 def refuse_without_locks(file: int, path: str) -> None:
-    """Takes the lock on a file. Raises `ValueError` if another process gets it too."""
-    none = ValueError(f"the disk of {path} has no locks: two runs could write one row")
-    try:
+    """Takes the lock on a file. Raises `ValueError` if another process is not refused it."""
+    with contextlib.suppress(OSError):  # then the other process can't have a lock either
         fcntl.lockf(file, fcntl.LOCK_EX, 1, 0)
-    except OSError:
-        raise none from None
     if not (child := os.fork()):
         try:
             fcntl.lockf(os.open(path, os.O_RDWR), fcntl.LOCK_EX | fcntl.LOCK_NB, 1, 0)
@@ -94,7 +91,7 @@ def refuse_without_locks(file: int, path: str) -> None:
         finally:
             os._exit(1)
     if os.waitpid(child, 0)[1]:
-        raise none
+        raise ValueError(f"the disk of {path} has no locks: two runs could write one row")
 
 
 def refuse_a_second(path: str, table: str, at: int, of: int) -> None:

@@ -118,6 +118,21 @@ def test_a_report_while_other_threads_begin_rows(tmp_path, monkeypatch):
     assert seen == sorted(seen) and len({*seen}) > 2
 
 
+def test_what_a_report_reads_does_not_change(tmp_path):
+    """As other threads write it."""
+    room = Room(tmp_path, 2)
+    room.create(0x9F7F)
+    journal = room.opened(2)
+    journal.note(1, "begin", "00 Slot0")
+    journal.identify(1, "4300")
+    rows, cards = journal.begun()
+    before = {**rows}, {**cards}
+    journal.note(1, "done", "")
+    journal.note(2, "begin", "00 Slot0")
+    journal.identify(2, "4301")
+    assert (rows, cards) == before and rows[1].state == "unsure" and [*cards] == ["4300"]
+
+
 def test_a_report_has_what_another_process_wrote(tmp_path):
     room, file = Room(tmp_path, 2), str(tmp_path / "day.csv")
     room.create()

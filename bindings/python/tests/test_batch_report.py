@@ -39,7 +39,7 @@ def write(room, at, card, more=()):
 
 
 def status(room, order=(1, 2)):
-    """The status of both machines: rows to decide by what is said of them, and rows in a report,
+    """The status of both machines: rows to decide by their state, and rows in a report,
     each with its card and outcome. They must be the same."""
     names = [f"--journal=j{at}" for at in order]
     code, out, error = room.run("--status", "--report=all.csv", *names)
@@ -211,14 +211,14 @@ def test_a_report_has_the_rows_in_their_order(tmp_path):
 
 
 def test_a_report_is_on_disk_before_it_has_its_name(tmp_path, monkeypatch):
-    steps = []
-    calls = {"fsync": os.fsync, "replace": os.replace}
+    steps, calls = [], {"fsync": os.fsync, "replace": os.replace}
+    whole = "row,id,reader,time,seconds,outcome,reason\r\n"
 
     def noted(name):
         def call(first, *more):
             steps.append(name)
             if name == "fsync":  # all of it
-                assert os.fstat(first).st_size == len(b"row,id,reader,time,seconds,outcome,reason\r\n")
+                assert os.fstat(first).st_size == len(whole)
             return calls[name](first, *more)
 
         return call

@@ -37,8 +37,13 @@ def read(count=1, seconds=SECONDS):
     """The next characters, or fewer if no more come in this time."""
     found, seconds = b"", None if has("no limit of time") else seconds
     while len(found) < count and select.select([line], [], [], seconds)[0]:
-        found += os.read(line, count - len(found))
+        found += now(count - len(found))
     return found
+
+
+def now(most):
+    """The characters that are there, up to so many. Without a card's end the terminal ends, too."""
+    return os.read(line, most) or sys.exit("the line is gone")
 
 
 def next_byte():
@@ -80,7 +85,7 @@ def by_characters(header, data=b""):
 def pass_block(sent, waits):
     """Passes a block of T=1, without what the card still sends of an earlier one."""
     while select.select([line], [], [], 0)[0] and not has("a second block not dropped"):
-        os.read(line, 65536)
+        now(65536)
     send(sent)
     front = read(3, SECONDS * waits)
     found = front + read(front[2] + 1 if len(front) == 3 else 0)

@@ -65,6 +65,14 @@ def is_there(number):
     return Path(f"/proc/{number}/exe").exists()
 
 
+def test_a_keeper_is_there_before_the_terminal(works):
+    """A later one could hold files of a terminal that the program has started meanwhile."""
+    card = works("--atr", T0)
+    [keeper] = keepers(card)
+    card.open(T0)
+    assert card.talk(READ, 1) == b"\x60" and keepers(card) == [keeper]
+
+
 @pytest.mark.parametrize("work", [SLEEPS, HOLDS])
 def test_at_t0(works, work):
     """The echo of the last character goes out before the application works, and NULLs while it

@@ -279,12 +279,16 @@ class Line(Application):
             data += byte
         return data
 
-    def talk(self) -> None:
-        """Resets the card, and talks, after PPS at the rate of a reset. An invalid request makes it
-        mute (ISO/IEC 7816-3, 9.1 and 9.3). Raises `OSError` at the next reset, or as `read`."""
+    def keep(self) -> None:
+        """Starts the keeper of an application, unless there is one."""
         if isinstance(self.of.card, OwnCard) and not self.keeper:
             self.keeper = Keeper(self)
             self.of.callback(self.keeper.close)
+
+    def talk(self) -> None:
+        """Resets the card, and talks, after PPS at the rate of a reset. An invalid request makes it
+        mute (ISO/IEC 7816-3, 9.1 and 9.3). Raises `OSError` at the next reset, or as `read`."""
+        self.keep()
         self.was_left = False
         self.of.reset()
         self.write(self.of.atr)
@@ -422,8 +426,10 @@ def serve_pty(of: Simulator, has_echo: bool, tell: Callable[[str], object]) -> N
     line.closed = select.poll()
     line.closed.register(ours, 0)
     line.clear()
-    tell(os.ttyname(theirs))
+    name = os.ttyname(theirs)
     os.close(theirs)
+    line.keep()  # a later one might inherit files of a terminal that starts now
+    tell(name)
     while not of.is_over.is_set():
         while line.is_left() and not of.is_over.is_set():
             time.sleep(LOOKS_EVERY)

@@ -217,6 +217,15 @@ def test_an_application_in_the_folder_of_its_user(tmp_path):
     made.communicate()
 
 
+def test_many_applications_of_one_class(monkeypatch):
+    """The path of modules grows once."""
+    monkeypatch.setattr(sys, "path", sys.path[:])
+    application("counter:Counter")
+    before = sys.path[:]
+    assert application("counter:Counter") is not application("counter:Counter")
+    assert sys.path == before
+
+
 def test_faults_strike_at_such_cards_at_t1(tmp_path):
     """Also with commands and responses of several blocks."""
     (tmp_path / "faults").write_text(

@@ -3,10 +3,11 @@
 
 import json
 import os
+import time
 from pathlib import Path
 
 import pytest
-from galliumtoad import T1, OwnCard
+from galliumtoad import T1, Command, OwnCard
 from galliumtoad.cards import Replay
 from galliumtoad.faults import Mistake
 from galliumtoad.simulate import Simulator, main
@@ -211,7 +212,7 @@ def test_lines_that_another_program_wrote(tmp_path, line):
 
 def test_a_masked_note_does_not_matter(replay):
     assert replay({"type": "note", "line": 1, "text": None, "masked": True}, *COUNTER).sessions
-    assert len(replay(one(1, "00CA0050", "", "", ""), *COUNTER).sessions[0]) == 2
+    assert len(replay(one(1, "00CA0050", "", "", ""), *COUNTER).sessions[0].commands) == 2
 
 
 # The dialogue of sim_tracer.trace: commands, and answers by GSM 11.11.
@@ -236,6 +237,38 @@ def test_a_capture_is_a_card(capsys):
     assert found[0].hex() == "a49f16" and found[6].hex() == "9804"
     assert [it[1:].hex().upper() for at, it in enumerate(found) if at != 6] == [
         it for at, (_, it) in enumerate(words) if at != 6]
+
+
+def test_another_card_of_a_capture(replay):
+    """It begins with the first command of the first session, and is no part of the other one."""
+    card, verify = replay(*SESSIONS), Command(bytes.fromhex("00200080"), b"", 256)
+    assert card.carry_out(verify) == (0x63C2, b"")
+    card.reset()
+    again = card.fresh()
+    assert again.carry_out(verify) == (0x63C2, b"") and card.carry_out(verify) == (0x63C1, b"")
+    card, counts = replay(*COUNTER), Command(bytes.fromhex("80100000"), b"", 1)
+    both = [(0x9000, b"\x01"), (0x6283, b"\x02")]
+    assert [card.carry_out(counts) for _ in both] == both
+    again = card.fresh()
+    assert [again.carry_out(counts) for _ in both] == both
+
+
+def seconds_each(replay, count):
+    """The time of one command of a session, at best."""
+    card = replay(*(one(it, "80100000", "", f"{it:08X}") for it in range(1, count + 1)))
+    command, times = Command(bytes.fromhex("80100000"), b"", 4), []
+    for _ in range(5):
+        it = card.fresh()
+        begun = time.process_time()
+        answers = [it.carry_out(command) for _ in range(count)]
+        times.append((time.process_time() - begun) / count)
+        assert answers[-1] == (0x9000, count.to_bytes(4, "big"))
+    return min(times)
+
+
+def test_a_long_capture(replay):
+    """A command takes as long as in a short one. By a search it would take 20 times as long."""
+    assert seconds_each(replay, 6000) < 3 * seconds_each(replay, 300)
 
 
 def test_a_capture_with_a_fault(tmp_path):

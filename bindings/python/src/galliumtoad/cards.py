@@ -2,6 +2,7 @@
 
 import atexit
 import contextlib
+import copy
 import json
 import os
 import pkgutil
@@ -12,6 +13,7 @@ import shutil
 import sys
 import time
 from binascii import unhexlify
+from collections import Counter, defaultdict
 from pathlib import Path
 from subprocess import PIPE, Popen, run
 from typing import Any, Callable, Optional, Sequence
@@ -60,7 +62,8 @@ def application(name: str) -> Application:
     """Makes an object of MODULE:CLASS. Raises `Mistake`, also later, for its errors and results."""
     if not re.fullmatch(".+:.+", name):
         raise Mistake(f"{name} is not MODULE:CLASS")
-    sys.path.insert(0, "")  # the folder of the program's user
+    if sys.path[:1] != [""]:
+        sys.path.insert(0, "")  # the folder of the program's user
     with mistakes(name):
         made = pkgutil.resolve_name(name)()
     if not isinstance(made, Application):
@@ -160,6 +163,17 @@ def explained(path: str) -> list[bytes]:
         return text.splitlines()
 
 
+class Session:
+    """The commands of a capture between two resets: in their order, and by header and data."""
+
+    def __init__(self, commands: list[dict[str, Any]]) -> None:
+        self.commands = commands
+        self.by_bytes = defaultdict[str, list[dict[str, Any]]](list)
+        for it in commands:
+            self.by_bytes[it["sent"]].append(it)
+        self.headers = {it["sent"][:8] for it in commands if it["sent"][8:]}  # before data
+
+
 class Replay(Application):
     """A card that answers as the one in a capture, in the order of its session; the last answer to
     a command comes again. A reset after a command begins the next session, or the first. Other
@@ -168,7 +182,7 @@ class Replay(Application):
 
     def __init__(self, path: str, unknown: int = 0x6D00, is_strict: bool = False) -> None:
         self.path, self.unknown, self.is_strict, self.atr = path, unknown, is_strict, b""
-        found, self.place, self.sent = [list[dict[str, Any]]()], 0, list[str]()
+        found = [list[dict[str, Any]]()]
         for at, text in enumerate(explained(path), 1):
             with mistakes(f"{path}: line {at}: not of trace_explain --json"):
                 it = json.loads(text or '{"type": "none"}')
@@ -179,9 +193,22 @@ class Replay(Application):
                     self.atr = self.atr or bytes.fromhex(it.get("characters", ""))
                 for tpdu in it["tpdus"] if it["type"] == "command" else []:
                     self.take({**tpdu}, found[-1])
-        self.sessions = [it for it in found if it]
+        self.sessions = [Session(it) for it in found if it]
         if not self.sessions:
             raise Mistake(f"{path}: no command with an answer")
+        self.begin(0)
+
+    def begin(self, place: int) -> None:
+        """Begins a session, which has got no command yet."""
+        self.place = place
+        self.count = 0
+        self.times = Counter[str]()  # of each command
+
+    def fresh(self) -> "Replay":
+        """Another card of the same capture, at its first session."""
+        it = copy.copy(self)
+        it.begin(0)
+        return it
 
     def take(self, tpdu: dict[str, Any], session: list[dict[str, Any]]) -> None:
         """Takes a whole TPDU. The card answers GET RESPONSE, and the same command after 6CXX."""
@@ -201,33 +228,39 @@ class Replay(Application):
             raise Mistake(f"{self.path}: line {it['line']}: a response of more than 3840 bytes")
 
     def takes_data(self, header: bytes) -> bool:
-        named = header.hex().upper()
-        return any(it["sent"][:8] == named != it["sent"] for it in self.sessions[self.place])
+        return header.hex().upper() in self.sessions[self.place].headers
 
     def carry_out(self, command: Command) -> tuple[int, bytes]:
         sent, session = (command.header + command.data).hex().upper(), self.sessions[self.place]
-        due = session[len(self.sent) :][:1]
-        if self.is_strict and [it["sent"] for it in due] != [sent]:
-            has = "line {line} has {sent}".format(**due[0]) if due else "the session has ended"
-            raise Mistake(f"{self.path}: {has}, not {sent}")
-        self.sent.append(sent)
-        known = [it for it in session if it["sent"] == sent][: self.sent.count(sent)]
+        if self.is_strict:
+            self.compare(sent, session.commands[self.count : self.count + 1])
+        times = self.times[sent]
+        self.times[sent] += 1
+        self.count += 1
+        known = session.by_bytes.get(sent)
         if not known:
             return self.unknown, b""
-        status, data = int(known[-1]["status"], 16), bytes.fromhex(known[-1]["received"])
+        it = known[min(times, len(known) - 1)]
+        status, data = int(it["status"], 16), bytes.fromhex(it["received"])
         if status >> 8 in (0x61, 0x6C):
             return self.unknown, data + bytes(status & 0xFF or 256)
         return status, data
 
+    def compare(self, sent: str, due: list[dict[str, Any]]) -> None:
+        """Raises `Mistake` for a command that is not the next one of the session."""
+        if [it["sent"] for it in due] != [sent]:
+            has = "line {line} has {sent}".format(**due[0]) if due else "the session has ended"
+            raise Mistake(f"{self.path}: {has}, not {sent}")
+
     def reset(self) -> None:
-        self.place, self.sent = (self.place + bool(self.sent)) % len(self.sessions), []
+        self.begin((self.place + bool(self.count)) % len(self.sessions))
 
     def instead(self, command: bytes) -> Optional[bytes]:
         """Answers in place of the card, or returns None. It answers a GET RESPONSE of the capture,
         as after 9FXX of a SIM, data after a header without any there, and P3 00 after one with."""
         header, p3, after = command[:4], command[4:5], command[5:]
         if header[1:2] == b"\xC0" and not after:
-            is_odd = any(it["sent"] == header.hex().upper() for it in self.sessions[self.place])
+            is_odd = header.hex().upper() in self.sessions[self.place].by_bytes
         else:
             is_odd = self.takes_data(header) != bool(after) and (p3 == b"\0" or bool(after))
         if not is_odd:

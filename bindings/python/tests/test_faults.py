@@ -10,7 +10,7 @@ from galliumtoad import (T1, Application, BlockError, Card, Get, Level, OwnCard,
 from galliumtoad.faults import (ECHO, LINE, T0, Faults, Gone, Mistake, block, head_size, one_first,
                                 read)
 from galliumtoad.simulate import Line, Simulator
-from galliumtoad.trials import AID, VALUE, trials
+from galliumtoad.trials.fixed import AID, VALUE, trials
 
 FCI = bytes.fromhex("6F098407A0000000031010")
 OBJECT = bytes.fromhex("51820258") + VALUE
@@ -162,7 +162,7 @@ def test_whole_commands(trial):
     it, struck = simulator(trial.faults)
     it.is_over.set()  # no waiting
     found, changes = whole(it), CHANGES[trial.name]
-    assert len(struck) == len(trial.read().all)
+    assert len(struck) == len(trial.read())
     for number, expected in changes.items():
         if isinstance(expected, int):  # the size of the stored value
             size = int.from_bytes(found[4][2:4], "big") if found[4][1] == 0x82 else found[4][1]

@@ -19,7 +19,7 @@ import pytest
 from galliumtoad import Application, Card, OwnCard, simulate
 from galliumtoad.faults import Faults, Mistake, block, read
 from galliumtoad.simulate import Line, Simulator, main, read_table, serve_vpcd
-from galliumtoad.trials import trials
+from galliumtoad.trials.fixed import trials
 from waiting import AtPty, wait_until
 
 AID = "A0000000031010"

@@ -13,15 +13,16 @@ import time
 from pathlib import Path
 
 import pytest
-from galliumtoad import trials
-from galliumtoad.trials import VALUE, Run, main
+from galliumtoad.trials import engine, fixed, main, program
+from galliumtoad.trials.fixed import VALUE, FixedJob, FixedRun
+from galliumtoad.trials.trial import Trial
 from test_bad_terminals import JOB, tried
 from waiting import wait_until
 
 
 def with_put(does, *pieces):
     """A run whose card took a put in these pieces, and answered a get."""
-    it = Run(trials.Trial("a", "command 9, mute", does, "b"), 0)
+    it = FixedRun(Trial("a", "command 9, mute", does, "b"), 0)
     it.whole(bytes.fromhex("00A4040007A0000000031010"))
     for at, piece in enumerate(pieces, 1):
         it.whole(bytes([0 if at == len(pieces) else 16, 0xDA, 0, 0x51, len(piece)]) + piece)
@@ -70,7 +71,7 @@ def test_a_fault_that_did_not_strike(does):
 
 
 def test_what_select_brought_is_no_value():
-    it, choose = Run(trials.trials()[0], 0), "00A4040007A0000000031010"
+    it, choose = FixedRun(fixed.trials()[0], 0), "00A4040007A0000000031010"
     for tpdu, expected in [(choose, "6a82"), (choose, "610b"),
                            ("00C000000B", "6f098407a00000000310109000")]:
         assert it.whole(bytes.fromhex(tpdu)).hex() == expected
@@ -89,7 +90,7 @@ PIECE, OTHER, GET, SELECT = "10DA00510141", "10DA00510142", "00CA005100", "00A40
 def test_what_was_sent_again(commands, verdict):
     """A get changes nothing at the card. The same piece of a put does, unless a SELECT came
     between: then the put begins again."""
-    it = Run(next(it for it in trials.trials() if it.name == "select late"), 0)
+    it = FixedRun(next(it for it in fixed.trials() if it.name == "select late"), 0)
     it.struck.append("struck")
     for command in commands:
         it.carried_out(bytes.fromhex(command))
@@ -100,12 +101,13 @@ def test_what_can_be_tried():
     """A reader gets whole commands; a line also what its protocol has."""
     for words, count in [(["{reader}"], 47), (["{tty}"], 58)]:
         for protocol in ("0", "1"):
-            parsed = trials.parser().parse_args(["--protocol", protocol, "--", "x", *words])
-            found = trials.possible(parsed)
+            parsed = program.parser().parse_args(["--protocol", protocol, "--", "x", *words])
+            job = program.job_of(parsed, program.terminal_of(parsed))
+            found = job.trials()
             expected = count if words == ["{reader}"] or protocol == "0" else 54
             assert len(found) == expected
-            assert {Run(it, parsed.protocol).atr[1] for it in found} == {0x80 * int(protocol)}
-    assert trials.parser().parse_args(["x"]).protocol == "0"
+            assert {job.run(it).atr[1] for it in found} == {0x80 * int(protocol)}
+    assert program.parser().parse_args(["x"]).protocol == "0"
 
 
 def test_other_words(capsys):
@@ -129,7 +131,8 @@ def test_other_words(capsys):
 def test_a_short_limit(capsys, monkeypatch):
     """A mute card takes a reader ten seconds, so a shorter limit looks like a terminal's fault. The
     program says so before it runs."""
-    monkeypatch.setattr(trials, "first", lambda given: print("it runs", file=sys.stderr) or 1 / 0)
+    monkeypatch.setattr(FixedJob, "begin",
+                        lambda *_: print("it runs", file=sys.stderr) or 1 / 0)
     for limit, says in (("9.9", "--limit 9.9: a terminal that waits for a mute card may look "
                          "hung, since a reader waits 10 seconds\n"), ("10", "")):
         with pytest.raises(ZeroDivisionError):
@@ -143,7 +146,7 @@ def test_a_file_of_results_is_opened_before_the_run(tmp_path, monkeypatch, capsy
     (tmp_path / "kept").write_text("earlier results")
     words = [option, str(tmp_path / "kept"), "--only", "lost at", "--", "/none/at/all", "{tty}"]
     assert main(words) == 2 and (tmp_path / "kept").read_text() == "earlier results"
-    monkeypatch.setattr(trials, "tried", lambda *_: pytest.fail("it runs"))
+    monkeypatch.setattr(fixed, "tried", lambda *_: pytest.fail("it runs"))
     assert main([option, str(tmp_path), "--", "true", "{tty}"]) == 2
     assert "Is a directory" in capsys.readouterr().err
 
@@ -179,7 +182,7 @@ def run(tmp_path, only, mistake="", limit=20):
 def test_results(tmp_path, capsys, only, mistake, verdict, happened):
     """The text shows what the files do."""
     found, status, page = run(tmp_path, only, mistake, limit=3 if verdict == "hung" else 20)
-    listed = next(it for it in trials.trials() if it.name.startswith(only))
+    listed = next(it for it in fixed.trials() if it.name.startswith(only))
     assert (found["verdict"], found["happened"]) == (verdict, happened)
     assert (found["expected"], found["clause"]) == (listed.expected, listed.clause)
     assert status == (verdict not in ("right", "told"))
@@ -203,7 +206,7 @@ def test_a_fault_that_does_not_strike_is_a_failure(tmp_path, capsys):
     """Unless the list says that a good terminal may miss it, and it succeeded."""
     status, counts = run(tmp_path, "select with a wrong template", "no template fetched")[1], ""
     assert status == 0 and "1 right\n* the fault can't strike" in capsys.readouterr().out
-    it = trials.Trial("a", "command 9, mute", "reports", "b", may_miss=True)
+    it = Trial("a", "command 9, mute", "reports", "b", may_miss=True)
     for it.may_miss, it.status, is_bad in [(True, 0, False), (True, 1, True), (False, 0, True)]:
         assert it.is_bad == is_bad
 
@@ -251,7 +254,7 @@ def test_processes_of_a_terminal_end_with_it(tmp_path, monkeypatch, job):
 def test_a_line_that_nobody_reads_holds_nothing_up(monkeypatch):
     """A process that is left may keep it open, and the card waits there with its echo."""
     begun, is_read = time.monotonic(), threading.Event()
-    monkeypatch.setattr(trials, "serve_pty", lambda run, has_echo, tell: (
+    monkeypatch.setattr(engine, "serve_pty", lambda run, has_echo, tell: (
         tell("/dev/null"), is_read.wait(60)))
     assert main(["--only", "select refused", "--", "true", "{tty}"]) == 2
     assert time.monotonic() < begun + 50
@@ -285,7 +288,7 @@ BLOCKS = ["block", "extension", "field", "abort", "refused"]
 
 
 def test_each_trial_is_in_a_part():
-    assert all(any(part in it.name for part in [*PARTS, *BLOCKS]) for it in trials.trials())
+    assert all(any(part in it.name for part in [*PARTS, *BLOCKS]) for it in fixed.trials())
 
 
 @pytest.mark.parametrize("part", PARTS)

@@ -10,7 +10,7 @@ from . import __version__, faults
 # Each is a module with a function `main`, which takes words and returns an exit status.
 PROGRAMS = {"batch": "personalises cards by the hundred; needs pyscard (the extra `pcsc`)",
             "simulate": "a card at vpcd or a serial line, which misbehaves if a file says so",
-            "trials": "lets a terminal do a job with some 60 cards that misbehave"}
+            "trials": "lets a terminal do a job with cards that misbehave, and judges it"}
 
 
 @faults.program

@@ -1,0 +1,449 @@
+"""Tests trials of any job with any card: what they leave out, keep and show. What they find is in
+test_bad_jobs.py."""
+
+import json
+import os
+import re
+import signal
+import socket
+import subprocess
+import sys
+import threading
+from collections import Counter
+from pathlib import Path
+from xml.etree import ElementTree
+
+import pytest
+from galliumtoad.faults import Mistake
+from galliumtoad.trials import engine, expect, main
+from galliumtoad.trials.any_job import chosen
+from galliumtoad.trials.dialogue import Step
+from galliumtoad.trials.kept import Kept
+from galliumtoad.trials.output import Output
+from galliumtoad.trials.rows import Row, rows
+from galliumtoad.trials.run import RESET, counted
+from galliumtoad.trials.trial import DOES, Trial
+from test_bad_jobs import TERMINAL, programs, tried  # noqa: F401
+from test_simulate import Vpcd
+from waiting import wait_until
+
+SAFE = ["--card", "any_cards:Safe"]
+JOB = ["--", *TERMINAL, "safe", ""]
+COMMAND = bytes.fromhex
+
+
+@pytest.mark.parametrize(
+    ("expected", "has_struck", "is_true", "is_changed", "is_twice", "verdicts"),
+    [  # with the exit statuses 0 and 1
+        ("reports it", True, True, False, False, ("wrong", "told")),
+        ("reports it", True, False, False, False, ("wrong", "told")),
+        ("reports it", True, False, True, False, ("wrong", "told")),
+        ("reports it", True, True, False, True, ("twice", "twice")),
+        ("reports it", False, True, False, False, ("unmet", "unmet")),
+        ("reports it", False, False, False, False, ("wrong", "unmet")),
+        ("may pass", True, True, False, False, ("passed", "told")),
+        ("may pass", True, False, False, False, ("wrong", "told")),
+        ("may pass", True, False, True, False, ("changed", "told")),
+        ("may pass", True, False, True, True, ("twice", "twice")),
+        ("may pass", True, False, False, True, ("wrong", "twice")),
+        ("succeeds", True, True, False, False, ("right", "failed")),
+        ("succeeds", True, False, False, False, ("wrong", "failed")),
+        ("succeeds or reports it", True, True, False, False, ("right", "told")),
+    ],
+)
+def test_verdicts(expected, has_struck, is_true, is_changed, is_twice, verdicts):
+    it = Trial("a", "command 1, mute", expected, "b", has_struck=has_struck, is_true=is_true,
+               is_changed=is_changed, is_twice=is_twice)
+    for it.status, verdict in zip((0, 1), verdicts):
+        assert it.judged() == verdict
+    for it.status, verdict in [(None, "hung"), (-11, "crashed"), (139, "crashed"),
+                               (255, verdicts[1])]:
+        assert it.judged() == verdict
+
+
+VERIFY, DEBIT, OTHER = COMMAND("002000800431323334"), COMMAND("8040000A00"), COMMAND("8040000B00")
+SELECT = COMMAND("00A4040000")
+
+
+@pytest.mark.parametrize(
+    ("commands", "found"),
+    [([VERIFY, VERIFY], {VERIFY[:4] + VERIFY[5:]: 2}),
+     ([DEBIT, OTHER], {DEBIT[:4]: 1, OTHER[:4]: 1}),
+     ([DEBIT, RESET, DEBIT], {DEBIT[:4]: 1}), ([DEBIT, SELECT, DEBIT], {DEBIT[:4]: 1}),
+     ([DEBIT, OTHER, DEBIT, SELECT, DEBIT], {DEBIT[:4]: 2, OTHER[:4]: 1}),
+     ([COMMAND(it) for it in ("00B0000010", "0CCA006600", "00C0000010", "0084000008", "80CA9F1700",
+                              "A0F2000010", "80F24000024F00", "A0B0000001")] * 2, {}),
+     ([COMMAND("80B0000010")] * 2, {COMMAND("80B00000"): 2}),
+     ([COMMAND("A0CA000001")] * 2, {COMMAND("A0CA0000"): 2}),
+     ([COMMAND("90CA000001")] * 2, {COMMAND("90CA0000"): 2})],
+)
+def test_how_often_a_card_carried_out_a_command(commands, found):
+    """Those that only read do not count, by their class."""
+    assert counted(commands) == Counter(found)
+
+
+@pytest.mark.parametrize(
+    ("first", "second", "output", "difference"),
+    [("a\nb\n", "a\nb\n", "a\nb", ""), ("a\nb", "a\nb", "a\nc", "line 2 is 'c', not 'b'"),
+     ("a\nb", "a\nb", "a", "1 lines of output, not 2"),
+     ("a", "a", "a\nb", "2 lines of output, not 1"),
+     ("at 12:30 DOE", "at 12:31 DOE", "at 12:59 DOE", ""),
+     ("at 12:30 DOE", "at 12:31 DOE", "at 12:59 ROE",
+      "line 1 is 'at 12:59 ROE', not 'at 12:30 DOE'"),
+     ("at 12:30 DOE", "at 12:31 DOE", "at 13:30 DOE",
+      "line 1 is 'at 13:30 DOE', not 'at 12:30 DOE'"),
+     ("x\nDOE", "x y\nDOE", "anything\nDOE", ""), ("x\nDOE", "x y\nDOE", "x\nROE", "line 2 is"),
+     # any number of lines in the place of some
+     ("a\nwait\nwait\nb", "a\nb", "a\nwait\nb", ""),
+     ("a\nwait\nwait\nb", "a\nb", "a\nc", "lines are"),
+     ("a\nwait\nwait\nb", "a\nb", "c\nwait\nb", "lines are"), ("a\nw\nb", "a\nb", "b", "lines are"),
+     ("a\nw\nb\nw\nw\nc", "a\nb\nc", "a\n1\n2\nb\nc", ""),
+     ("a\nw\nb\nw\nw\nc", "a\nb\nc", "a\n1\n2\nc", "lines are")],
+)
+def test_outputs(first, second, output, difference):
+    """Words that differ between two runs without a fault are left out, and nothing else."""
+    it = Output(first, second)
+    found = it.difference(output)
+    assert found == difference or difference and found.startswith(difference)
+    assert not it.difference(first) and not it.difference(second)
+    assert bool(it.left_out) == (first != second)
+
+
+def step(command, *answers):
+    return Step(3, "A", COMMAND(command), [COMMAND(it) for it in answers])
+
+
+CASE_1, CASE_2 = step("8040000A00", "9000"), step("00B0000003", "0102039000")
+CASE_3, CASE_4 = step("00200080021234", "9000"), step("00A40400023F00", "6103", "6F01009000")
+NO_FILE = step("00A40400023F00", "6A82")
+
+
+@pytest.mark.parametrize(
+    ("words", "steps"),
+    [("cut 1", [CASE_2, CASE_4]), ("flip 8", [CASE_2, CASE_4]), ("status 63C2", [CASE_3]),
+     ("status 6283", [CASE_4, NO_FILE]), ("status 6281", [CASE_2, CASE_4]),
+     ("early status", [CASE_3, CASE_4, NO_FILE]),
+     ("complement", [CASE_2, CASE_3, CASE_4, NO_FILE]),
+     ("twice", [CASE_1, CASE_3, CASE_4, NO_FILE]),
+     ("refuse 6A82", [CASE_1, CASE_2, CASE_3, CASE_4]),
+     ("procedure 33", [CASE_1, CASE_2, CASE_3, CASE_4, NO_FILE])],
+)
+def test_where_a_fault_can_strike(words, steps):
+    row = next(it for it in rows() if it.words == words)
+    every = [CASE_1, CASE_2, CASE_3, CASE_4, NO_FILE]
+    assert [it for it in every if row.is_for(it)] == steps
+
+
+def test_the_list_of_faults():
+    assert len(rows()) == len({it.words for it in rows()}) == 40
+    for it in rows():
+        assert it.clause.endswith(".") and it.expected.startswith(tuple(DOES))
+        assert isinstance(it.is_meant(CASE_4), bool)  # its condition is known
+    [row] = [it for it in rows() if it.words == "procedure 33"]
+    assert not row.is_for(step("00330000021234", "9000"))  # it is INS itself
+
+
+def test_the_trial_of_a_fault():
+    """A status is the last one, and an error in place of an error may pass."""
+    made = {it.words: it for it in rows()}
+    it = made["status 6281"].trial(CASE_4)
+    assert (it.name, it.faults) == ("command 3 status 6281", "command 3 part 2, status 6281")
+    assert made["refuse 6F00"].trial(CASE_4).faults == "command 3, refuse 6F00"
+    assert made["refuse 6F00"].trial(CASE_4).expected == "reports it"
+    assert made["refuse 6F00"].trial(NO_FILE).expected.startswith("may pass, as 6A82 does")
+    assert made["mute"].trial(NO_FILE).expected.startswith("reports it")
+
+
+def test_which_are_chosen():
+    every = [Trial(f"command {it} mute", "", "reports", "", title="READ" * (it > 5))
+             for it in range(1, 10)]
+    assert chosen(every, "", None, 0) == chosen(every, "", 9, 0) == every
+    assert chosen(every, "command 7", None, 0) == [every[6]]
+    assert chosen(every, "READ", None, 0) == every[5:]
+    for seed in range(9):
+        some = chosen(every, "", 4, seed)
+        assert some == [it for it in every if it in some] and len(some) == 4  # in their order
+        assert some == chosen(every, "", 4, seed)
+    assert len({tuple(it.name for it in chosen(every, "", 4, seed)) for seed in range(9)}) > 3
+    with pytest.raises(Mistake, match="no trial that can happen there has 'x' in its name"):
+        chosen(every, "x", None, 0)
+
+
+def test_own_verdicts(tmp_path):
+    made = [Trial(f"command {it} {what}", "", "reports it", "") for it in (1, 2)
+            for what in ("mute", "status 6983", "flip 8")]
+    lines = ["# ours", "", "at command 2  STATUS 6983: may pass",
+             "at command 1 flip 8:changed, hung"]
+    (tmp_path / "ours").write_text("\n".join(lines))
+    expect.accept(str(tmp_path / "ours"), made)
+    changed = [it for it in made if it.accepted or it.expected != "reports it"]
+    assert [it.name for it in changed] == ["command 1 flip 8", "command 2 status 6983"]
+    assert (changed[0].accepted, changed[0].expected) == (["changed", "hung"], "reports it")
+    assert changed[1].allowed == ["passed", "told"] and not changed[1].accepted
+    for changed[0].verdict, is_bad in [("changed", False), ("hung", False), ("wrong", True),
+                                       ("told", False)]:
+        assert changed[0].is_bad == is_bad
+
+
+@pytest.mark.parametrize("line", ["at command 1 mute", "command 1 mute: may pass",
+                                  "at command 3 mute: hung", "at command 1 mute: told me",
+                                  "at command 1 mute: right", "at command 0 mute: hung",
+                                  "at command 1 deaf: hung"])
+def test_own_verdicts_that_are_wrong(tmp_path, line):
+    """A typo is no verdict, nor is a second one."""
+    (tmp_path / "ours").write_text(f"at command 1 status 6983: may pass\n{line}\n")
+    made = [Trial(f"command 1 {it}", "", "reports", "") for it in ("mute", "status 6983")]
+    with pytest.raises(Mistake, match=f"^{tmp_path}/ours: line 2: no"):
+        expect.accept(str(tmp_path / "ours"), made)
+    (tmp_path / "ours").write_text("at command 1 mute: hung\nat command 1 mute: wrong\n")
+    with pytest.raises(Mistake, match="line 2: no trial 'command 1 mute', or named before"):
+        expect.accept(str(tmp_path / "ours"), made)
+
+
+def test_with_own_verdicts(tmp_path, capsys):
+    """A run is green exactly if nothing got worse."""
+    ours = tmp_path / "ours"
+    words = ["--expect", str(ours), "--only", "command 2 status 63"]
+    ours.write_text("at command 2 status 63C2: may pass\n")
+    status, found = tried(tmp_path, "safe", "a wrong PIN taken", *words)
+    assert (status, found["command 2 status 63C2"], found["command 2 status 6300"]) == (
+        1, "passed", "wrong")
+    ours.write_text("at command 2 status 63C2: may pass\nat command 2 status 6300: wrong\n")
+    assert tried(tmp_path, "safe", "a wrong PIN taken", *words)[0] == 0
+    assert tried(tmp_path, "safe", "", *words)[0] == 0  # it got better
+    ours.write_text("at command 2 status 6399: wrong\n")
+    assert main([*SAFE, *words, *JOB]) == 2
+    assert "line 1: no trial 'command 2 status 6399'" in capsys.readouterr().err
+
+
+def names_of(text):
+    return re.findall(r"^\w+ +(command \d+ .+)$", text, re.M)
+
+
+def test_what_differs_between_two_runs(tmp_path, capsys):
+    """The number on the card, but not the HOME, which is one of its own and empty, nor the line."""
+    status, found = tried(tmp_path, "nonce", "", "--only", "command 2 status 6200")
+    assert (status, set(found.values())) == (0, {"right", "told"})
+    shown = capsys.readouterr().out
+    assert re.search("2 commands; two runs differ, so left out: output 'it is .{8}', 'it is .{8}'; "
+                     "the response to 00840000;", shown)
+    assert "said: {tty} {tmp}/home HOME is []\n" in shown
+    assert not list(Path("/tmp").glob("trials-*/home/state"))
+
+
+def test_a_capture_as_a_card(tmp_path, capsys):
+    """The card sends what it did in the capture, so the terminal prints another name."""
+    capture = tmp_path / "capture"
+    lines = ["00A4040005", "A4", "A000000003", "9000", "0020008004", "20", "31323334", "9000",
+             "00B0000006", "B05F2003414E4E9000"]
+    capture.write_text("".join(f"{'><'[at % 2]} {it}\n" for at, it in enumerate(lines)))
+    words = ["--card", str(capture), "--only", "command 3 status", "--most", "3"]
+    assert main([*words, *JOB]) == 0
+    shown = capsys.readouterr().out
+    assert "; said: ANN\n" in shown and len(names_of(shown)) == 3
+    assert "at command 3, READ BINARY, 0 of 3 faults pass silently: 3 told\n" in shown
+    assert main([*words, *JOB[:-1], "any name printed"]) == 0
+    assert names_of(capsys.readouterr().out) == names_of(shown)
+    capture.write_text("> 00\n")
+    assert main([*words, *JOB]) == 2
+
+
+def test_files_of_results(tmp_path, capsys):
+    """By command, with the dialogue and a mark at the fault."""
+    page, junit = tmp_path / "page", tmp_path / "junit"
+    words = ["--html", str(page), "--junit", str(junit), "--only", "command 2 status 63"]
+    assert tried(tmp_path, "safe", "a wrong PIN taken", *words)[0] == 1
+    line = "at command 2, VERIFY, 2 of 2 faults pass silently: 2 wrong"
+    assert f"\n{line}\n1 right, 2 wrong\n" in capsys.readouterr().out
+    text = page.read_text()
+    assert f"<h2>{line}</h2>" in text and text.count("<tr class=\"wrong\">") == 2
+    assert text.count("<mark>fault: command 2, status 63C2</mark>\n#2 VERIFY") == 1
+    assert "&lt; status     63C2 a warning: 2 tries are left\n" in text
+    suite = ElementTree.parse(junit).getroot()
+    assert (suite.get("tests"), suite.get("failures")) == ("3", "2")
+    cases = [(it.get("classname"), it.get("name"), [part.get("type") for part in it])
+             for it in suite]
+    assert cases == [("trials", "no fault", [None]),
+                     ("command 2, VERIFY", "command 2 status 63C2", ["wrong"]),
+                     ("command 2, VERIFY", "command 2 status 6300", ["wrong"])]
+    [first, _] = [it for it in json.loads((tmp_path / "made.json").read_text()) if it["command"]]
+    assert (first["is_true"], first["is_changed"], first["is_twice"]) == (True, False, False)
+
+
+def test_without_trace_explain(tmp_path, monkeypatch, capsys):
+    """The page then has the bytes."""
+    monkeypatch.setenv("PATH", "/usr/bin:/bin")
+    page = tmp_path / "page"
+    assert main([*SAFE, "--html", str(page), "--only", "command 2 status 63C2", *JOB]) == 0
+    assert "at command 2, INS 20, 0 of 1 faults pass silently: 1 told\n" in capsys.readouterr().out
+    assert "<mark>fault: command 2, status 63C2</mark>\n&gt; 002000800431323334\n&lt; 63C2" in (
+        page.read_text())
+
+
+AROUND = "sh -c 'echo {} >> \"$1\"; test ! -e {{tmp}}/{}; touch {{tmp}}/{}; ls $HOME/../home' sh {}"
+
+
+def test_commands_around_a_run(tmp_path, capsys):
+    made = tmp_path / "made"
+    words = [*SAFE, "--only", "command 1 refuse 6A82"]
+    around = [f"--{it}={AROUND.format(it, it, it, made)}" for it in ("before", "after")]
+    assert main([*words, *around, *JOB]) == 0
+    assert made.read_text() == "before\nafter\n" * 3
+    capsys.readouterr()
+    fails = "sh -c 'echo so; exit 3'"
+    for option in ("--before", "--after"):
+        assert main([*words, option, fails, *JOB]) == 2
+        assert capsys.readouterr().err == f"{option} {fails}: it ended with 3: so\n"
+    assert main([*words, "--limit", "1", "--before", "sleep 9", *JOB]) == 2
+    assert "--before sleep 9: it did not end" in capsys.readouterr().err
+
+
+def test_the_command_after_a_run_that_fails(tmp_path):
+    """Also after one, since it may have left something."""
+    made = tmp_path / "made"
+    words = [*SAFE, "--after", f"touch {made}", "--", "/none/at/all", "{tty}"]
+    assert main(words) == 2 and made.exists()
+
+
+def test_results_that_are_kept(tmp_path, capsys, monkeypatch):
+    """A run that is interrupted continues where it was, and at its end the file goes."""
+    kept, home = tmp_path / "kept", tmp_path / "home"
+    home.mkdir()
+    words = [sys.executable, "-m", "galliumtoad.trials", *SAFE, "--keep", str(kept), "--only",
+             "command 2 status", *JOB]
+    paths = {**os.environ, "PYTHONPATH": os.pathsep.join(sys.path), "TMPDIR": str(home)}
+    run = subprocess.Popen(words, stdout=subprocess.PIPE, stderr=subprocess.PIPE, text=True,
+                           env=paths, cwd=tmp_path, preexec_fn=lambda: signal.signal(
+                               signal.SIGINT, signal.default_int_handler))
+    wait_until(lambda: kept.exists() and kept.read_bytes().count(b"\n") >= 3)
+    run.send_signal(signal.SIGINT)
+    assert run.communicate(timeout=60)[1] == "interrupted\n" and run.returncode == 2
+    assert not list(home.iterdir())
+    before = kept.read_bytes()
+    kept.write_bytes(before + b'{"faults": "command 2, ')  # as a power loss leaves it
+    done = [json.loads(it)["faults"] for it in before.splitlines()[1:]]
+    ran = []
+    original = Kept.add
+    monkeypatch.setattr(Kept, "add", lambda self, it: (ran.append(it.faults), original(self, it)))
+    assert main([*SAFE, "--keep", str(kept), "--only", "command 2 status", *JOB]) == 0
+    names = names_of(capsys.readouterr().out)
+    assert len(done) >= 2 and len(names) == len(done) + len(ran) == 6
+    assert not set(done) & set(ran)
+    assert not kept.exists()
+
+
+def test_results_that_were_kept_of_something_else(tmp_path, capsys):
+    kept, ours = tmp_path / "kept", tmp_path / "ours"
+    ours.write_text("nonsense")
+    words = [*SAFE, "--keep", str(kept), "--only", "command 1 status 6200"]
+    options = ["--json", str(tmp_path)]  # a folder: the run ends before it begins
+    assert main([*words, *options, *JOB]) == 2 and not kept.exists()
+    kept.write_text("{}\n")
+    assert main([*words, *JOB]) == 2
+    assert "results of another job, terminal or card" in capsys.readouterr().err
+    for text in ("{\n", "[]\n[]\n", "7\n7\n"):
+        kept.write_text(text)
+        assert main([*words, *JOB]) == 2 and f"--keep {kept}: " in capsys.readouterr().err
+        assert kept.read_text() == text
+    os.unlink(kept)
+    first = Kept(str(kept))
+    assert main([*words, *JOB]) == 2 and f"--keep {kept}: " in capsys.readouterr().err
+    first.remove()
+
+
+def test_kept_results_are_judged_again(tmp_path):
+    """By the verdicts that a team has now."""
+    path = str(tmp_path / "kept")
+    first = Kept(path)
+    first.begin({"job": 1})
+    trial = Trial("a", "command 1, mute", "reports", "b", status=0, has_struck=True, is_true=True)
+    first.add(trial)
+    first.file.close()
+    for expected, verdict in [("reports", "wrong"), ("may pass", "passed")]:
+        again = Kept(path)
+        again.begin({"job": 1})
+        it = Trial("a", "command 1, mute", expected, "b")
+        assert again.has(it) and it.verdict == verdict
+        assert not again.has(Trial("a", "command 2, mute", expected, "b"))
+        again.file.close()
+
+
+# A terminal that sends whole commands to a reader, at the port of this name. Its second word is the
+# statuses that it takes for success.
+OVER_A_READER = """
+import re, socket, sys
+line = socket.create_connection(("localhost", int(sys.argv[1]))).makefile("rw")
+for command in ("00A4040005A000000003", "002000800431323334", "00B0000006"):
+    print(command, file=line, flush=True)
+    answer = line.readline().strip() or sys.exit("no answer")
+    if not re.fullmatch(sys.argv[2], answer[-4:]):
+        sys.exit(answer)
+print(bytes.fromhex(answer[6:-4]).decode("latin-1"))
+"""
+
+
+class Reader(Vpcd):
+    """vpcd with pcscd, and a terminal that reaches it by a socket."""
+
+    def __init__(self):
+        self.server, self.desk = (socket.create_server(("localhost", 0)) for _ in range(2))
+        self.address, self.name = (f"localhost:{self.server.getsockname()[1]}",
+                                   str(self.desk.getsockname()[1]))
+        threading.Thread(target=self.serve, daemon=True).start()
+
+    def serve(self):
+        while True:
+            self.accept()
+            self.say(b"\x01")  # power on
+            assert [self.ask(b"\x04").hex() for _ in range(2)] == ["3b00"] * 2
+            terminal = self.desk.accept()[0].makefile("rw")
+            for command in terminal:
+                if (answer := self.ask(bytes.fromhex(command))) is None:
+                    break
+                print(answer.hex().upper(), file=terminal, flush=True)
+            terminal.close()
+            self.receive(1)  # until the card goes
+
+
+@pytest.mark.parametrize(
+    ("takes", "wrong"), [("9000", []), ("9000|63..", ["63C2", "6300"]), ("9000|6[39].*",
+                                                                      ["6983", "63C2", "6300"])])
+def test_over_a_reader(tmp_path, monkeypatch, takes, wrong):
+    """Whole commands alone have faults there."""
+    monkeypatch.setattr(engine, "GONE_AFTER", 0.1)
+    reader, made = Reader(), tmp_path / "made"
+    words = [*SAFE, "--vpcd", reader.address, "--reader", reader.name, "--json", str(made)]
+    job = [sys.executable, "-IS", "-c", OVER_A_READER, "{reader}", takes]
+    assert main([*words, "--only", "command 2 status", "--", *job]) == bool(wrong)
+    found = {it["name"][-4:]: it["verdict"] for it in json.loads(made.read_text())[1:]}
+    assert found == {it: "wrong" if it in wrong else "told"
+                     for it in ("6F00", "6983", "63C2", "6300", "6200", "9001")}
+    assert main([*words, "--only", "echo", "--", *job]) == 2  # needs a line
+
+
+def test_an_error_of_the_card_is_no_verdict(capsys):
+    """It ends the run."""
+    words = ["--card", "any_cards:Broken", "--limit", "5"]
+    assert main([*words, "--", *TERMINAL, "safe", "exit 0 always"]) == 2
+    assert "any_cards:Broken.carry_out: the card's database is locked" in capsys.readouterr().err
+
+
+@pytest.mark.parametrize(
+    ("words", "said"),
+    [(["--card", "none:Safe", "--", "{tty}"], "none:Safe: No module named 'none'"),
+     (["--card", "none", "--", "{tty}"], "none is not MODULE:CLASS"),
+     ([*SAFE, "--", "true"], "neither {reader} nor {tty}"),
+     ([*SAFE, "--", "true", "{tty}"], "without a fault it sends no command"),
+     ([*SAFE, "--", *TERMINAL, "chain", ""], "without a fault it is failed: exit status 1"),
+     ([*SAFE, "--limit", "1", "--", "sh", "-c", "sleep 9", "{tty}"],
+      "without a fault it is hung: no end"),
+     *(([f"--{it}", "1", "--", "true", "{tty}"], f"--{it} needs --card")
+       for it in ("keep", "most", "expect"))],
+)
+def test_what_can_not_be_tried(capsys, words, said):
+    assert main(words) == 2 and said in capsys.readouterr().err
+
+
+def test_the_list(capsys):
+    assert main([*SAFE, "--list"]) == 0
+    assert capsys.readouterr().out.count("\n\n") == len(rows()) - 1

@@ -1,14 +1,17 @@
 """Tests cards that answer as those in a capture, by lines in the form of `trace_explain --json
 --commands` and by that program."""
 
+import io
 import json
 import os
+import subprocess
+import sys
 import time
 from pathlib import Path
 
 import pytest
 from galliumtoad import T1, Command, OwnCard
-from galliumtoad.cards import Replay
+from galliumtoad.cards import Replay, typed
 from galliumtoad.faults import Mistake
 from galliumtoad.simulate import Simulator, main
 from room import folder_of_programs
@@ -169,17 +172,82 @@ def test_a_strict_card(replay, tmp_path):
 
 @pytest.mark.parametrize(
     ("objects", "why"),
-    [([one(7, "00200080", None, "", "9000", masked=True)], "line 7: a masked value"),
-     ([one(7, "00CA0050", "", None, "9000", masked=True)], "line 7: a masked value"),
-     ([one(2, "00CA0050"), {"type": "error", "line": 9, "text": "unexpected byte"}],
-      "line 9: unexpected byte"),
+    [([one(7, "00200080", None, "", "9000", masked=True)],
+      "line 7: a masked value: left out\n.*: no command with an answer"),
      ([], "no characters heard"), ([ATR, SUMMARY], "no command with an answer"),
-     ([one(1, "00CA0050", "", "", "")], "no command with an answer"),
-     ([one(5, "00B00000", "", "AA" * 3841, "9000")], "line 5: a response of more than 3840 bytes")],
+     ([one(1, "00CA0050", "", "", "")], "no command with an answer")],
 )
 def test_a_capture_that_can_not_be_replayed(replay, tmp_path, objects, why):
     with pytest.raises(Mistake, match=f"^{tmp_path}/capture: {why}"):
         replay(*objects)
+
+
+TOO_LONG = command(tpdu(7, "00B0000000", "", "AA" * 256, "6100"),
+                   *(tpdu(8, "00C0000000", "", "AA" * 256, "6100") for _ in range(15)),
+                   tpdu(9, "00C0000000", "", "AA", "9000"))
+
+
+@pytest.mark.parametrize(
+    ("left_out", "why"),
+    [(one(7, "00200080", None, "", "9000", masked=True), "a masked value"),
+     (one(7, "00CA0050", "", None, "9000", masked=True), "a masked value"),
+     ({"type": "error", "line": 7, "text": "unexpected byte"}, "unexpected byte"),
+     (one(7, "00B00000", "", "AA" * 3841, "9000"), "a response of more than 3840 bytes"),
+     (TOO_LONG, "a response of more than 3840 bytes")],
+)
+def test_what_a_replay_leaves_out(replay, tmp_path, capsys, left_out, why):
+    """That command, and no other. The program names its line."""
+    it = replay(COUNTER[0], left_out, COUNTER[1])
+    said = f"{tmp_path}/capture: line 7: {why}: left out"
+    assert it.left_out == [said] and len(it.sessions[0].commands) == 2
+    assert asked(it, "8010000001", "8010000001", "00B0000000") == ["019000", "026283", "6D00"]
+    assert main(["--replay", f"{tmp_path}/capture", "--tty", "/none/at/all"]) == 1
+    assert capsys.readouterr().err.startswith(f"{said}\n")
+    assert len(replay(one(7, "00B00000", "", "AA" * 3840), *COUNTER).sessions[0].commands) == 3
+
+
+def test_a_log_of_pcscd(tmp_path):
+    """It has the answer to reset, and a second one begins a session."""
+    atr = "00000005 eventhandler.c:286:EHStatusHandlerThread() Card ATR: 3B 80 01 81 "
+    lines = [atr, "00000009 APDU: 80 10 00 00 01 ", "00000100 SW: 01 90 00 ",
+             atr.replace("80 01 81", "00"), "00000009 APDU: 80 10 00 00 01 ",
+             "00000100 SW: 02 90 00 "]
+    (tmp_path / "log").write_text("\n".join(lines) + "\n")
+    card = Replay(str(tmp_path / "log"))
+    assert card.atr.hex() == "3b800181" and not card.left_out
+    assert asked(card, "8010000001", "8010000001") == ["019000", "019000"]
+    card.reset()
+    assert asked(card, "8010000001") == ["029000"]
+
+
+def test_an_answer_that_is_typed(replay, monkeypatch, capsys):
+    """A line that is no answer brings the question again, and no line 6D00."""
+    card = replay(*COUNTER, ask=typed)
+    lines = io.StringIO("6100\n\n4a4f45 9000\n6A88\n")
+    monkeypatch.setattr(sys, "stdin", lines)
+    assert asked(card, "00CA005000", "8010000001", "00CA005100", "00CA005200") == [
+        "4A4F459000", "019000", "6A88", "6D00"]
+    assert capsys.readouterr().err == ("unknown command 00CA0050\n" * 3
+                                       + "unknown command 00CA0051\nunknown command 00CA0052\n")
+    monkeypatch.setattr(sys, "stdin", None)
+    assert asked(card, "00CA005000") == ["6D00"]
+
+
+def test_the_program_asks(tmp_path):
+    """While it waits for a person, it asks the terminal for more time."""
+    atr = {**ATR, "characters": "3B804001"}
+    lines = [json.dumps(it, separators=(",", ":")) for it in (atr, *COUNTER)]
+    (tmp_path / "capture").write_text("\n".join(lines))
+    words = ["--replay", tmp_path / "capture", "--no-echo", "--unknown", "ask"]
+    card = AtPty(*words, stdin=subprocess.PIPE).open("3B804001")
+    assert card.talk(bytes.fromhex("80CA000003"), 1) == b"\x60"
+    card.program.stdin.write("4A4F45 9000\n")
+    card.program.stdin.flush()
+    found = card.read(1)
+    while found == b"\x60":
+        found = card.read(1)
+    assert found + card.read(5) == b"\xcaJOE\x90\x00"
+    assert card.end()[1] == "unknown command 80CA0000\n"
 
 
 def test_lines_that_an_editor_of_another_system_wrote(replay, tmp_path):

@@ -26,6 +26,8 @@ PATIENCE, LOOKS_EVERY = 10.0, 0.01  # seconds for a line of a program, and betwe
 # A status of an application. What a program answers to a header, and to a command: data if any, SW.
 STATUS, BYTE, BYTES = "(?:9[0-9A-F]|6[2-9ABD-F])[0-9A-F]{2}", "[0-9A-F]{2}", "(?:[0-9A-F]{2})*"
 WAY, RESPONSE = "(to|from)-card", f"(?:((?:[0-9A-F]{{2}}){{1,4096}}) )?({STATUS})"
+CARD_ATR = re.compile("Card ATR: ?((?: ?[0-9A-F]{2})+)")  # as pcscd logs it
+MOST_RECEIVED = 2 * (4096 - 256)  # digits of a response
 PARTS = {**dict.fromkeys(("cla", "ins", "p1", "p2"), BYTE), "sent": BYTES, "received": BYTES,
          "line": "[0-9]+", "status": f"(?:9[0-9A-F]|6[1-9A-F]){BYTE}"}  # of a TPDU
 
@@ -174,29 +176,60 @@ class Session:
         self.headers = {it["sent"][:8] for it in commands if it["sent"][8:]}  # before data
 
 
+def typed(command: str) -> tuple[int, bytes]:
+    """Prints a command, and reads its answer from standard input, as a program gives it. At the end
+    of the input it is 6D00."""
+    while True:
+        print(f"unknown command {command}", file=sys.stderr, flush=True)
+        if not (line := sys.stdin.readline() if sys.stdin else ""):
+            return 0x6D00, b""
+        if found := re.fullmatch(RESPONSE, line.strip(), re.I):
+            return int(found[2], 16), bytes.fromhex(found[1] or "")
+
+
 class Replay(Application):
     """A card that answers as the one in a capture, in the order of its session; the last answer to
     a command comes again. A reset after a command begins the next session, or the first. Other
-    commands, and responses that the capture did not fetch, get the status `unknown`. To a strict
-    card all but the session's next command is a `Mistake`."""
+    commands get the status `unknown`, or what `ask` says; responses that the capture did not fetch
+    get that status. To a strict card all but the session's next command is a `Mistake`. A command
+    that can't be told is `left_out`, a line for each."""
 
-    def __init__(self, path: str, unknown: int = 0x6D00, is_strict: bool = False) -> None:
-        self.path, self.unknown, self.is_strict, self.atr = path, unknown, is_strict, b""
+    def __init__(self, path: str, unknown: int = 0x6D00, is_strict: bool = False,
+                 ask: Optional[Callable[[str], tuple[int, bytes]]] = None) -> None:
+        self.path, self.unknown, self.is_strict, self.ask = path, unknown, is_strict, ask
+        self.atr, self.left_out = b"", list[str]()
         found = [list[dict[str, Any]]()]
         for at, text in enumerate(explained(path), 1):
             with mistakes(f"{path}: line {at}: not of trace_explain --json"):
-                it = json.loads(text or '{"type": "none"}')
-                if it["type"] == "error" or it["type"] != "note" and '"masked"' in json.dumps(it):
-                    raise Mistake(f"{path}: line {it['line']}: {it.get('text', 'a masked value')}")
-                if it["type"] in ("reset", "atr"):
-                    found.append([])
-                    self.atr = self.atr or bytes.fromhex(it.get("characters", ""))
-                for tpdu in it["tpdus"] if it["type"] == "command" else []:
-                    self.take({**tpdu}, found[-1])
-        self.sessions = [Session(it) for it in found if it]
+                self.hear(json.loads(text or '{"type": "none"}'), found)
+        self.sessions = [Session(it) for it in map(self.short, found) if it]
         if not self.sessions:
-            raise Mistake(f"{path}: no command with an answer")
+            raise Mistake("\n".join([*self.left_out, f"{path}: no command with an answer"]))
         self.begin(0)
+
+    def hear(self, it: dict[str, Any], found: list[list[dict[str, Any]]]) -> None:
+        """Takes an object of `trace_explain` into the last session, or into a new one."""
+        kind = it["type"]
+        logged = CARD_ATR.search(str(it.get("text"))) if kind == "note" else None
+        if kind in ("reset", "atr") or logged:
+            found.append([])
+            self.atr = self.atr or bytes.fromhex(logged[1] if logged else it.get("characters", ""))
+        elif kind == "error" or kind == "command" and '"masked"' in json.dumps(it):
+            self.leave_out(it["line"], it["text"] if kind == "error" else "a masked value")
+        elif kind == "command":
+            for tpdu in it["tpdus"]:
+                self.take({**tpdu}, found[-1])
+
+    def leave_out(self, line: object, why: str) -> None:
+        """Notes that a line is left out."""
+        self.left_out.append(f"{self.path}: line {line}: {why}: left out")
+
+    def short(self, session: list[dict[str, Any]]) -> list[dict[str, Any]]:
+        """The commands of a session whose response a card can hold."""
+        for it in session:
+            if len(it["received"]) > MOST_RECEIVED:
+                self.leave_out(it["line"], "a response of more than 3840 bytes")
+        return [it for it in session if len(it["received"]) <= MOST_RECEIVED]
 
     def begin(self, place: int) -> None:
         """Begins a session, which has got no command yet."""
@@ -224,8 +257,6 @@ class Replay(Application):
             last.update(status=it["status"], received=last["received"] + it["received"])
         else:
             session.append(it)
-        if len(session[-1]["received"]) > 2 * (4096 - 256):
-            raise Mistake(f"{self.path}: line {it['line']}: a response of more than 3840 bytes")
 
     def takes_data(self, header: bytes) -> bool:
         return header.hex().upper() in self.sessions[self.place].headers
@@ -239,7 +270,7 @@ class Replay(Application):
         self.count += 1
         known = session.by_bytes.get(sent)
         if not known:
-            return self.unknown, b""
+            return self.ask(sent) if self.ask else (self.unknown, b"")
         it = known[min(times, len(known) - 1)]
         status, data = int(it["status"], 16), bytes.fromhex(it["received"])
         if status >> 8 in (0x61, 0x6C):

@@ -21,12 +21,13 @@ from typing import Any, Callable, ContextManager, Optional, Union
 from . import (Application, Atr, AtrError, Card, Code, Command, CommandError, Edc, Level, OwnCard,
                Pps, PpsError)
 from .cards import (LEAST_ATR, LOOKS_EVERY, Program, Replay, application, awaits, next_byte,
-                    read_table, status_of)
+                    read_table, status_of, typed)
 from .faults import ECHO, LINE, OK, T0, T1, Faults, Gone, block, mistakes, number, program, read
 
 POWER_OFF, POWER_ON, RESET, GET_ATR = (bytes([it]) for it in (0, 1, 2, 4))  # vpcd's own messages
 MUTE_FOR, AWAY_FOR = 10.0, 2.0  # seconds until the connection to vpcd closes, and opens again
 SILENT_FOR = 1.0  # seconds until vpcd, which serves one connection at a time, seems to have another
+ASK = "ask"  # in place of the status of an unknown command
 VPCD, PPSS, DEFAULT_RATE, FOREVER = "localhost:35963", b"\xFF", 0x11, float("inf")
 RESYNCH, ABORT, WTX, RESPONSE, IS_PART = 0xC0, 0xC2, 0xC3, 0x20, 0x20  # of the PCB at T=1
 NULL, MULTIPLE = b"\x60", 8  # more time at T=0, and how many times BWT at T=1
@@ -523,9 +524,21 @@ def parser() -> argparse.ArgumentParser:
         help="with --tty: its rate at a reset; without it 9600")
     add("--reset", choices=SIGNALS, default="", help="with --tty: the line that holds the card in "
         "reset while it is on; without it the only reset is the start")
-    add("--unknown", metavar="SW", type=status_of, default="6D00",
-        help="with --replay: the status of a command that the capture lacks; without it 6D00")
+    add("--unknown", metavar="SW", type=lambda it: it if it == ASK else status_of(it),
+        default="6D00", help="with --replay: the status of a command that the capture lacks, or"
+        " `ask` for an answer that you type; without it 6D00")
     add("--strict", action="store_true", help="with --replay: ends at another command")
+    return it
+
+
+def replayed(given: argparse.Namespace) -> Replay:
+    """The card of a capture. Prints what it leaves out."""
+    if given.unknown == ASK:
+        it = Replay(given.replay, is_strict=given.strict, ask=typed)
+    else:
+        it = Replay(given.replay, given.unknown, given.strict)
+    for line in it.left_out:
+        print(line, file=sys.stderr, flush=True)
     return it
 
 
@@ -533,7 +546,7 @@ def parser() -> argparse.ArgumentParser:
 def main(words: Optional[list[str]] = None) -> int:
     """Runs the program. Returns the exit status."""
     given = parser().parse_args(words)
-    own = Replay(given.replay, given.unknown, given.strict) if given.replay else given.own
+    own = replayed(given) if given.replay else given.own
     card, atr = given.table or (OwnCard(own), getattr(own, "atr", b"") or LEAST_ATR)
     text = mistakes(given.faults)(Path(given.faults or os.devnull).read_text)("utf-8-sig")
     it = Simulator(card, given.atr or atr, Faults(read(text, given.faults), given.seed), given.v)

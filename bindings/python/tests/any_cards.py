@@ -31,7 +31,6 @@ class Safe(Card):
     """VERIFY of 1234, and READ BINARY of an object."""
 
     TAKES = (0x20,)
-    atr = bytes.fromhex("3B00")
     is_open = False
 
     def does(self, header, data):

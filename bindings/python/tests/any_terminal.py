@@ -9,7 +9,7 @@ import signal
 import sys
 
 TTY, JOB, MISTAKE = sys.argv[1:]
-SECONDS = 5  # its waiting time
+SECONDS = float(os.environ.get("PATIENCE", "12"))  # its waiting time
 SELECT, NAME = bytes.fromhex("00A40400"), bytes.fromhex("A000000003")
 OK = "9000"
 # The statuses other than 9000 that a mistake takes for success, at these commands of a job.
@@ -30,7 +30,7 @@ def has(*mistakes):
 def fail(why):
     if has("exit 0 always"):
         print(why)
-    sys.exit(0 if has("exit 0 always") else why)
+    sys.exit(0 if has("exit 0 always", "gives up in silence") else why)
 
 
 def read(count):
@@ -131,7 +131,8 @@ def store():
 def nonce():
     command(1, SELECT, NAME)
     print("it is", command(2, bytes.fromhex("00840000"), wanted=4).hex())
-    print(sys.argv[1], os.environ["HOME"], "HOME is", os.listdir(os.environ["HOME"]))
+    print(sys.argv[1], os.environ["HOME"], "HOME has", os.listdir(os.environ["HOME"]))
+    print("GnuPG is at", os.environ.get("GNUPGHOME"))
     open(os.path.join(os.environ["HOME"], "state"), "w").close()
 
 

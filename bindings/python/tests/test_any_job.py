@@ -8,6 +8,7 @@ import signal
 import socket
 import subprocess
 import sys
+import tempfile
 import threading
 from collections import Counter
 from pathlib import Path
@@ -15,14 +16,15 @@ from xml.etree import ElementTree
 
 import pytest
 from galliumtoad.faults import Mistake
-from galliumtoad.trials import engine, expect, main
+from galliumtoad.trials import engine, expect, main, program, progress
 from galliumtoad.trials.any_job import chosen
-from galliumtoad.trials.dialogue import Step
+from galliumtoad.trials.dialogue import Dialogue, Exchange, Step
 from galliumtoad.trials.kept import Kept
 from galliumtoad.trials.output import Output
 from galliumtoad.trials.rows import Row, rows
 from galliumtoad.trials.run import RESET, counted
 from galliumtoad.trials.trial import DOES, Trial
+from galliumtoad.trials.usual import Usual
 from test_bad_jobs import TERMINAL, programs, tried  # noqa: F401
 from test_simulate import Vpcd
 from waiting import wait_until
@@ -86,7 +88,7 @@ def test_how_often_a_card_carried_out_a_command(commands, found):
     ("first", "second", "output", "difference"),
     [("a\nb\n", "a\nb\n", "a\nb", ""), ("a\nb", "a\nb", "a\nc", "line 2 is 'c', not 'b'"),
      ("a\nb", "a\nb", "a", "1 lines of output, not 2"),
-     ("a", "a", "a\nb", "2 lines of output, not 1"),
+     ("a", "a", "a\nb", "2 lines of output, not 1"), ("a", "a", "ab", "line 1 is 'ab', not 'a'"),
      ("at 12:30 DOE", "at 12:31 DOE", "at 12:59 DOE", ""),
      ("at 12:30 DOE", "at 12:31 DOE", "at 12:59 ROE",
       "line 1 is 'at 12:59 ROE', not 'at 12:30 DOE'"),
@@ -97,7 +99,7 @@ def test_how_often_a_card_carried_out_a_command(commands, found):
      ("a\nwait\nwait\nb", "a\nb", "a\nwait\nb", ""),
      ("a\nwait\nwait\nb", "a\nb", "a\nc", "lines are"),
      ("a\nwait\nwait\nb", "a\nb", "c\nwait\nb", "lines are"), ("a\nw\nb", "a\nb", "b", "lines are"),
-     ("a\nw\nb\nw\nw\nc", "a\nb\nc", "a\n1\n2\nb\nc", ""),
+     ("a\nw\na", "a\na", "a", "lines are"), ("a\nw\nb\nw\nw\nc", "a\nb\nc", "a\n1\n2\nb\nc", ""),
      ("a\nw\nb\nw\nw\nc", "a\nb\nc", "a\n1\n2\nc", "lines are")],
 )
 def test_outputs(first, second, output, difference):
@@ -148,6 +150,7 @@ def test_the_trial_of_a_fault():
     made = {it.words: it for it in rows()}
     it = made["status 6281"].trial(CASE_4)
     assert (it.name, it.faults) == ("command 3 status 6281", "command 3 part 2, status 6281")
+    assert made["status 6281"].trial(CASE_2).faults == "command 3, status 6281"
     assert made["refuse 6F00"].trial(CASE_4).faults == "command 3, refuse 6F00"
     assert made["refuse 6F00"].trial(CASE_4).expected == "reports it"
     assert made["refuse 6F00"].trial(NO_FILE).expected.startswith("may pass, as 6A82 does")
@@ -220,15 +223,140 @@ def names_of(text):
     return re.findall(r"^\w+ +(command \d+ .+)$", text, re.M)
 
 
-def test_what_differs_between_two_runs(tmp_path, capsys):
+def test_what_differs_between_two_runs(tmp_path, capsys, monkeypatch):
     """The number on the card, but not the HOME, which is one of its own and empty, nor the line."""
+    (tmp_path / "rooms").mkdir()
+    monkeypatch.setattr(tempfile, "tempdir", str(tmp_path / "rooms"))
+    monkeypatch.setenv("GNUPGHOME", str(tmp_path))
     status, found = tried(tmp_path, "nonce", "", "--only", "command 2 status 6200")
     assert (status, set(found.values())) == (0, {"right", "told"})
     shown = capsys.readouterr().out
     assert re.search("2 commands; two runs differ, so left out: output 'it is .{8}', 'it is .{8}'; "
                      "the response to 00840000;", shown)
-    assert "said: {tty} {tmp}/home HOME is []\n" in shown
-    assert not list(Path("/tmp").glob("trials-*/home/state"))
+    assert "left out: output 'it is" in shown and "{tmp}" not in shown
+    assert "; said: GnuPG is at None\n" in shown
+    assert not list((tmp_path / "rooms").iterdir())
+
+
+def test_what_stands_for_names_of_a_run():
+    with engine.Room(engine.Terminal([], {"reader": "R"}, "", 1)) as room:
+        room.names["tty"] = "/dev/pts/1"
+        said = f"{room.tmp}/a {room.tmp}b /dev/pts/1: /dev/pts/12"
+        assert room.plain(said) == f"{{tmp}}/a {room.tmp}b {{tty}}: /dev/pts/12"
+        assert room.filled(["{tty}{reader}", "{other}{}"]) == ["/dev/pts/1R", "{other}{}"]
+    assert not os.path.exists(room.tmp)
+
+
+def children():
+    """The processes that this one has started."""
+    return [it for path in Path("/proc/self/task").glob("*/children")
+            for it in path.read_text().split()]
+
+
+def test_a_run_leaves_nothing(tmp_path):
+    """No process, no thread, no open file."""
+    before = children(), len(os.listdir("/proc/self/fd"))
+    assert main([*SAFE, "--only", "command 2 status 63", *JOB]) == 0
+    assert (children(), len(os.listdir("/proc/self/fd"))) == before
+    assert not [it for it in threading.enumerate() if isinstance(it, engine.Service)]
+
+
+def test_a_card_that_can_not_be_served(monkeypatch, capsys):
+    """It is no terminal's fault, and nothing waits for it."""
+    def fails(*_):
+        raise OSError("out of pty devices")
+    monkeypatch.setattr(engine, "serve_pty", fails)
+    monkeypatch.setattr(engine, "AWAIT_READER", 1e6)
+    assert main([*SAFE, "--", "sleep", "1000", "{tty}"]) == 2
+    assert capsys.readouterr().err == "out of pty devices\n"
+
+
+def test_progress(monkeypatch, capsys):
+    monkeypatch.setattr(progress, "EVERY", 0.0)
+    assert main([*SAFE, "--only", "command 2 status 63", *JOB]) == 0
+    assert capsys.readouterr().err == "1 of 2 trials, 1 minute left\n"
+
+
+def talk(*exchanges):
+    """A dialogue of these exchanges."""
+    it = Dialogue()
+    for number, command, answer in exchanges:
+        it.take(Exchange(number, COMMAND(command), COMMAND(answer)))
+    return it
+
+
+FILE = [(1, "00A40000023F00", "6103"), (1, "00C0000003", "6F01009000"), (2, "00B0000000", "6C02"),
+        (2, "00B0000002", "AABB9000"), (3, "8040000A", "")]
+
+
+def test_a_dialogue():
+    it = talk(*FILE)
+    assert it.responses() == [(COMMAND("00A400003F00"), COMMAND("6F0100")),
+                              (COMMAND("00B00000"), COMMAND("AABB")), (COMMAND("8040000A"), b"")]
+    assert [(at.number, at.title, len(at.answers), at.data.hex(), at.has_data)
+            for at in it.steps()] == [(1, "SELECT", 2, "6f0100", True),
+                                        (2, "READ BINARY", 2, "aabb", False),
+                                        (3, "INS 40", 1, "", False)]
+    assert [at.status.hex() for at in it.steps()] == ["9000", "9000", ""]
+    assert not step("002000800112", "9000").has_data  # of two bytes or more
+    assert it.lines[-3:] == ["> 00B0000002", "< AABB9000", "> 8040000A"]
+    for _ in range(2):
+        it.reset()
+    assert it.lines[-2:] == ["> 8040000A", "reset"]
+    assert "\n#2 GET RESPONSE" in it.text() and "summary" not in it.text()
+
+
+def usual_of(one, other, commands=((), ())):
+    return Usual(("a", "a"), (talk(*one), talk(*other)), commands)
+
+
+def test_what_is_usual():
+    it = usual_of(FILE, FILE)
+    assert not it.left_out and [step.number for step in it.steps] == [1, 2, 3]
+    for other, has_other in [(FILE, False), (FILE[:1], False),
+                             ([(1, "00B0000000", "AA9000")], False),
+                             ([(1, "00B0000000", "AABC9000")], True),
+                             ([(1, "00B1000000", "9000")], False)]:
+        assert it.has_other_data(talk(*other)) == has_other
+    # a response that differs is no news, and the commands end where they differ
+    other = [*FILE[:2], (2, "00B0000000", "AACC9000"), (3, "8041000A", "")]
+    it = usual_of(FILE, other)
+    assert it.left_out == ["command 3 8040000A, 8041000A", "the response to 00B00000"]
+    assert not it.has_other_data(talk((1, "00B0000000", "009000")))
+    assert [step.number for step in it.steps] == [1, 2]
+    assert usual_of(FILE, FILE[:2]).left_out[0] == "commands after 1"
+
+
+def test_what_was_carried_out_too_often():
+    it = usual_of(FILE, FILE, ([DEBIT], [DEBIT, DEBIT, OTHER]))
+    assert not it.is_exceeded([DEBIT, DEBIT, OTHER, VERIFY])
+    for again in ([DEBIT] * 3, [OTHER] * 2, [VERIFY] * 2):
+        assert it.is_exceeded(again)
+
+
+def test_what_results_are_kept_of(tmp_path, monkeypatch):
+    """Of the same files, words and commands alone."""
+    terminal, capture, module = (tmp_path / it for it in ("terminal", "capture", "own_card.py"))
+    monkeypatch.syspath_prepend(tmp_path)
+    module.write_text("from any_cards import Safe\nclass Own(Safe):\n    pass\n")
+    capture.write_text("> 8040000A00\n< 9000\n")
+    terminal.write_text("one")
+
+    def made(card, *words):
+        given = program.parser().parse_args(["--card", card, *words, "--", str(terminal), "{tty}"])
+        job = program.job_of(given, program.terminal_of(given))
+        job.usual = usual_of(FILE, FILE)
+        return program.identity(given, job)
+
+    assert made(str(capture)) == made(str(capture)) != made(str(capture), "--limit", "9")
+    before = made(str(capture)), made("own_card:Own")
+    terminal.write_text("two")
+    after = made(str(capture)), made("own_card:Own")
+    assert before[0] != after[0] and before[1] != after[1]
+    capture.write_text("> 8040000B00\n< 9000\n")
+    module.write_text(module.read_text() + "# changed\n")
+    assert made(str(capture)) != after[0] and made("own_card:Own") != after[1]
+    assert made(str(capture))["commands"] == ["00a40000", "00b00000", "8040000a"]
 
 
 def test_a_capture_as_a_card(tmp_path, capsys):
@@ -278,6 +406,14 @@ def test_without_trace_explain(tmp_path, monkeypatch, capsys):
     assert "at command 2, INS 20, 0 of 1 faults pass silently: 1 told\n" in capsys.readouterr().out
     assert "<mark>fault: command 2, status 63C2</mark>\n&gt; 002000800431323334\n&lt; 63C2" in (
         page.read_text())
+
+
+def test_an_explanation_that_fails(tmp_path, monkeypatch):
+    """Then the page has the bytes, not a part of the text."""
+    (tmp_path / "trace_explain").write_text("#!/bin/sh\necho '#1 SELECT'\nexit 1\n")
+    (tmp_path / "trace_explain").chmod(0o700)
+    monkeypatch.setenv("PATH", str(tmp_path))
+    assert talk(*FILE).text() == "\n".join(talk(*FILE).lines)
 
 
 AROUND = "sh -c 'echo {} >> \"$1\"; test ! -e {{tmp}}/{}; touch {{tmp}}/{}; ls $HOME/../home' sh {}"
@@ -419,6 +555,68 @@ def test_over_a_reader(tmp_path, monkeypatch, takes, wrong):
     assert found == {it: "wrong" if it in wrong else "told"
                      for it in ("6F00", "6983", "63C2", "6300", "6200", "9001")}
     assert main([*words, "--only", "echo", "--", *job]) == 2  # needs a line
+
+
+# A terminal at T=1, which may be one that does not ask for a lost block.
+IN_BLOCKS = """
+import os, select, sys
+from galliumtoad import T1
+line = os.open(sys.argv[1], os.O_RDWR | os.O_NOCTTY)
+def read(count):
+    found = b""
+    while len(found) < count and select.select([line], [], [], 12)[0]:
+        found += os.read(line, count - len(found))
+    return found
+def pass_block(sent, waits):
+    for byte in sent:
+        os.write(line, bytes([byte]))
+        read(1)
+    front = read(3)
+    return front + read(front[2] + 1) if front else sys.argv[2] and sys.exit("silence") or b""
+assert read(4) == bytes.fromhex("3B800181")
+blocks = T1(pass_block)
+for command in ("00A4040005A000000003", "002000800431323334", "00B0000006"):
+    answer = blocks(bytes.fromhex(command))
+    if answer[-2:].hex() != "9000":
+        sys.exit(answer.hex())
+print(answer[3:-2].decode("latin-1"))
+"""
+
+
+@pytest.mark.parametrize(("mistake", "verdict"), [("", "right"), ("deaf", "failed")])
+def test_at_t1(tmp_path, monkeypatch, mistake, verdict):
+    """A lost block is sent again, and the card has carried out no command again."""
+    monkeypatch.setenv("PYTHONPATH", os.pathsep.join(sys.path))
+    made = tmp_path / "made"
+    words = [*SAFE, "--protocol", "1", "--json", str(made), "--only", "command 2 l"]
+    job = [sys.executable, "-c", IN_BLOCKS, "{tty}", mistake]
+    assert main([*words, "--", *job]) == (verdict == "failed")
+    found = {it["name"]: it["verdict"] for it in json.loads(made.read_text())}
+    assert found == {"no fault": "right", "command 2 lrc": "right", "command 2 lose": verdict}
+
+
+def test_half_a_line_of_kept_results(tmp_path):
+    """What follows one that was cut off is whole again."""
+    path = tmp_path / "kept"
+    for number in range(1, 4):
+        it = Kept(str(path))
+        it.begin({"job": 1})
+        made = [Trial("a", f"command {at}, mute", "reports", "b", status=1) for at in range(1, 5)]
+        assert [it.has(trial) for trial in made] == [at < number for at in range(1, 5)]
+        it.add(made[number - 1])
+        it.file.close()
+        with open(path, "ab") as file:
+            file.write(b'{"faults": "command')
+
+
+@pytest.mark.parametrize("line", ["7", "{}", "[]", '{"faults": "command 1, mute"}', "nonsense"])
+def test_a_wrong_line_of_kept_results(tmp_path, line):
+    path = tmp_path / "kept"
+    path.write_text(f'{{"job": 1}}\n{line}\n')
+    it = Kept(str(path))
+    with pytest.raises(Mistake, match=f"^--keep {path}: no results of trials: "):
+        it.begin({"job": 1})
+    it.file.close()
 
 
 def test_an_error_of_the_card_is_no_verdict(capsys):

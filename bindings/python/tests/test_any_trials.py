@@ -13,7 +13,8 @@ CHANGED = {
 
 
 @pytest.mark.parametrize("job", CHANGED)
-def test_a_good_terminal(tmp_path, job):
+def test_a_good_terminal(tmp_path, monkeypatch, job):
+    monkeypatch.setenv("PATIENCE", "6")  # more than the delay of 4 seconds
     status, found = tried(tmp_path, job, "")
     assert [name for name, verdict in found.items() if verdict == "changed"] == CHANGED[job]
     assert set(found.values()) <= {"right", "told", "passed", "changed"} and len(found) > 40

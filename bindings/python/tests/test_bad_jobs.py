@@ -46,6 +46,8 @@ MISTAKES = [
     ("safe", "any name printed", "command 3 other value", "changed"),
     ("safe", "exit 0 always", "command 2 power off", "wrong"),
     ("safe", "exit 0 always", "command 1 refuse 6A82", "wrong"),
+    ("safe", "exit 0 always", "command 2 reset", "changed"),
+    ("safe", "gives up in silence", "command 2 reset", "wrong"),
     ("safe", "no limit of time", "command 1 mute", "hung"),
     ("safe", "crashes at an error", "command 2 refuse 6982", "crashed"),
     ("safe", "6CXX for ever", "command 3 6C again", "hung"),
@@ -69,7 +71,7 @@ MISTAKES = [
 
 @pytest.mark.parametrize(("job", "mistake", "name", "verdict"), MISTAKES)
 def test_a_mistake_is_found(tmp_path, job, mistake, name, verdict):
-    limit = 8 if verdict == "hung" else 60
+    limit = 12 if verdict == "hung" else 60
     status, found = tried(tmp_path, job, mistake, "--only", name, limit=limit)
     assert (found["no fault"], found[name]) == ("right", verdict)
     assert status == 1

@@ -245,3 +245,28 @@ def test_trials_over_a_reader(desk):
                           capture_output=True, env=desk.environment, timeout=280)
     assert (done.returncode, done.stderr) == (0, "")
     assert done.stdout.endswith("2 right, 6 told\n")
+
+
+# Sends commands until one fails, and prints what the last one brought.
+SENDS = """
+import sys
+from smartcard.pcsc.PCSCCardConnection import PCSCCardConnection
+card = PCSCCardConnection(sys.argv[1])
+card.connect()
+for command in sys.argv[2:]:
+    data, *status = card.transmit(list(bytes.fromhex(command)))
+    if status != [0x90, 0]:
+        sys.exit(bytes(status).hex())
+print(bytes(data[3:]).decode("latin-1"))
+"""
+
+
+def test_any_job_over_a_reader(desk):
+    words = [sys.executable, "-m", "galliumtoad.trials", "--vpcd", desk.address]
+    words += ["--card", "any_cards:Safe", "--only", "command 2 status 6"]
+    job = ["00A4040005A000000003", "002000800431323334", "00B0000006"]
+    done = subprocess.run([*words, "--", sys.executable, "-c", SENDS, "{reader}", *job], text=True,
+                          capture_output=True, env=desk.environment, timeout=280, cwd=TESTS)
+    assert (done.returncode, done.stderr) == (0, "")
+    assert done.stdout.endswith("at command 2, VERIFY, 0 of 5 faults pass silently: 5 told\n"
+                                "1 right, 5 told\n")

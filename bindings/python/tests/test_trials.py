@@ -214,6 +214,12 @@ def test_a_fault_that_does_not_strike_is_a_failure(tmp_path, capsys):
 LEAVES = "setsid sleep 30 & echo 'it says \u00fc\x1b'; exec sleep 30"
 
 
+def test_the_fixed_job_has_the_home_of_its_user(capsys, monkeypatch):
+    monkeypatch.setenv("HOME", "/none/at/all")
+    assert fails(["sh", "-c", "echo $HOME; ls {tmp}; exit 1"]) == 2
+    assert "\n/none/at/all\n\nwithout a fault it is failed" in capsys.readouterr().err
+
+
 def fails(words, limit="2"):
     """The status of trials with a terminal that fails without a fault."""
     return main(["--only", "select refused", "--limit", limit, "--", *words, "{tty}"])

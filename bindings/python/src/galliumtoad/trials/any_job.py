@@ -2,6 +2,7 @@
 commands. What a good terminal does follows from the fault."""
 
 import re
+import sys
 from pathlib import Path
 from random import Random
 from typing import Callable, Iterable, Optional, Union
@@ -12,7 +13,7 @@ from ..faults import ANYWHERE, DATA, ECHO, LINE, T0, T1, Mistake
 from .dialogue import FAULT, Dialogue, Exchange, Step
 from .engine import Job, Terminal, tried
 from .fixed import ATRS
-from .rows import STATUSES, rows
+from .rows import rows
 from .run import RESET, Run
 from .trial import Trial
 from .usual import Usual
@@ -78,8 +79,9 @@ class AnyRun(Run):
         it.is_true = not difference
         it.is_changed = self.has_changed(usual) or self.is_named(output, usual)
         it.is_twice = usual.is_exceeded(self.commands)
-        return difference if difference and it.status == 0 else (
-            "other output" if difference else "the same output")
+        if not difference:
+            return "the same output"
+        return difference if it.status == 0 else "other output"
 
     def has_changed(self, usual: Usual) -> bool:
         """Whether the fault changed data that the card sent."""
@@ -87,8 +89,9 @@ class AnyRun(Run):
         return changes or usual.has_other_data(self.dialogue)
 
     def is_named(self, output: str, usual: Usual) -> bool:
-        """Whether the output names a status of the fault, as in `SW1=0x62, SW2=0x83`."""
-        statuses = [it.values[0].hex() for it in self.trial.read() if it.kind in STATUSES]
+        """Whether the output names a status that the card sent and does not send without the fault,
+        as in `SW1=0x62, SW2=0x83`."""
+        statuses = [it.hex() for it in self.dialogue.statuses() - usual.statuses]
         forms = [re.compile(f"{it[:2]}.{{0,12}}?{it[2:]}", re.I) for it in statuses]
         return any(len(it.findall(output)) > len(it.findall(usual.output.first)) for it in forms)
 
@@ -157,9 +160,12 @@ def is_t1(atr: bytes) -> bool:
 
 
 def card_of(name: str) -> Union[Replay, str]:
-    """A capture that is read, or MODULE:CLASS. Raises `Mistake`."""
+    """A capture that is read, or MODULE:CLASS. Prints what is left out. Raises `Mistake`."""
     if Path(name).is_file():
-        return Replay(name)
+        it = Replay(name)
+        for line in it.left_out:
+            print(line, file=sys.stderr, flush=True)
+        return it
     application(name)
     return name
 

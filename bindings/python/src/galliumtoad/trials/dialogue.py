@@ -99,6 +99,10 @@ class Dialogue:
         return [(without_lengths(it[0].command), b"".join(part.answer[:-2] for part in it))
                 for it in groups]
 
+    def statuses(self) -> set[bytes]:
+        """Those that the card sent."""
+        return {it.answer[-2:] for it in self.exchanges if it.answer}
+
     def steps(self) -> list[Step]:
         """Its commands."""
         found = list[Step]()

@@ -146,13 +146,16 @@ class Service(threading.Thread):
             self.ready.put(why)
 
     def begun(self) -> str:
-        """Waits until a terminal may begin. Returns the name of its line. Raises `OSError`."""
+        """Waits until a terminal may begin. Returns the name of its line. Raises `OSError`, and
+        what the card does."""
         self.start()
         try:
             name = self.ready.get(timeout=AWAIT_READER)
         except Empty:
             raise OSError(f"the reader at {self.vpcd} does not see the card") from None
-        return "" if isinstance(name, Exception) else name
+        if isinstance(name, Exception):
+            raise name
+        return name
 
     def end(self) -> None:
         """Takes the card away."""

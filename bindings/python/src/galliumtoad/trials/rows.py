@@ -37,7 +37,7 @@ class Row:
     def is_meant(self, step: Step) -> bool:
         """Whether the words after the fault say so."""
         if found := re.fullmatch("(not )?at (.+)", self.which):
-            return (f"{step.command[1]:02X}" in found[2].split()) == (found[1] is None)
+            return (f"{step.command[1]:02X}" in found[2]) == (found[1] is None)
         return {
             "": True,
             "with data": step.has_data,

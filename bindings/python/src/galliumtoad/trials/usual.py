@@ -24,6 +24,7 @@ class Usual:
                  commands: tuple[list[bytes], list[bytes]]) -> None:
         self.output = Output(*outputs)
         self.counts: Counter[bytes] = counted(commands[0]) | counted(commands[1])
+        self.statuses = set.union(*(it.statuses() for it in dialogues))
         mine, its = map(by_command, dialogues)
         self.responses = {it: data for it, data in mine.items() if its.get(it, data) == data}
         steps, others = (it.steps() for it in dialogues)

@@ -16,7 +16,7 @@ from xml.etree import ElementTree
 
 import pytest
 from galliumtoad.faults import Mistake
-from galliumtoad.trials import engine, expect, main, program, progress
+from galliumtoad.trials import engine, expect, main, program, progress, report
 from galliumtoad.trials.any_job import chosen
 from galliumtoad.trials.dialogue import Dialogue, Exchange, Step
 from galliumtoad.trials.kept import Kept
@@ -306,6 +306,15 @@ def test_a_dialogue():
     assert "\n#2 GET RESPONSE" in it.text() and "summary" not in it.text()
 
 
+def test_a_long_dialogue():
+    """Its middle is left out, as of a response without an end."""
+    it = talk(*((1, "00C0000010", "AA6110") for _ in range(2000)))
+    lines = it.text().splitlines()
+    assert len(lines) == 301 and re.fullmatch(r"\.\. [1-9]\d{3} lines", lines[150])
+    assert lines[0].startswith("#1 ") and "#2000 GET RESPONSE" in it.text()
+    assert len(talk(*((1, "00C0000010", "AA9000") for _ in range(75))).text().splitlines()) == 300
+
+
 def usual_of(one, other, commands=((), ())):
     return Usual(("a", "a"), (talk(*one), talk(*other)), commands)
 
@@ -382,7 +391,8 @@ def test_files_of_results(tmp_path, capsys):
     words = ["--html", str(page), "--junit", str(junit), "--only", "command 2 status 63"]
     assert tried(tmp_path, "safe", "a wrong PIN taken", *words)[0] == 1
     line = "at command 2, VERIFY, 2 of 2 faults pass silently: 2 wrong"
-    assert f"\n{line}\n1 right, 2 wrong\n" in capsys.readouterr().out
+    shown = capsys.readouterr().out
+    assert f"\n{line}\n1 right, 2 wrong\n" in shown and "at command 0" not in shown
     text = page.read_text()
     assert f"<h2>{line}</h2>" in text and text.count("<tr class=\"wrong\">") == 2
     assert text.count("<mark>fault: command 2, status 63C2</mark>\n#2 VERIFY") == 1
@@ -396,6 +406,30 @@ def test_files_of_results(tmp_path, capsys):
                      ("command 2, VERIFY", "command 2 status 6300", ["wrong"])]
     [first, _] = [it for it in json.loads((tmp_path / "made.json").read_text()) if it["command"]]
     assert (first["is_true"], first["is_changed"], first["is_twice"]) == (True, False, False)
+
+
+def test_what_reports_count():
+    """A fault passes silently if the output is the same, whether that is good or bad. A verdict
+    that a team expects is not bad."""
+    def made(name, number, verdict, is_true, *accepted):
+        return Trial(name, "command 1, mute", "reports", "A rule.", command=number, title="READ",
+                     verdict=verdict, is_true=is_true, accepted=list(accepted), status=0)
+    results = [made("no fault", 0, "right", True), made("command 1 a", 1, "passed", True),
+               made("command 1 b", 1, "wrong", True), made("command 1 c", 1, "wrong", False),
+               made("command 1 d", 1, "told", False),
+               made("command 2 e", 2, "changed", False, "changed")]
+    assert report.summary(results).splitlines() == [
+        "at command 1, READ, 2 of 4 faults pass silently: 1 passed, 1 told, 2 wrong",
+        "at command 2, READ, 0 of 1 faults pass silently: 1 changed",
+        "1 right, 1 passed, 1 told, 1 changed, 2 wrong"]
+    page = report.as_html(results)
+    assert page.count('<tr class="wrong">') == 2 and page.count('<tr class="">') == 4
+    assert page.count("<td>command 1 a<td>") == page.count("<td>no fault<td>") == 1
+    assert "<details>" not in page
+    suite = ElementTree.fromstring(report.as_junit(results))
+    assert (suite.get("tests"), suite.get("failures"), suite.get("skipped")) == ("6", "2", "0")
+    missed = Trial("a", "command 1, mute", "reports", "b", may_miss=True, status=0)
+    assert ElementTree.fromstring(report.as_junit([missed])).get("skipped") == "1"
 
 
 def test_without_trace_explain(tmp_path, monkeypatch, capsys):

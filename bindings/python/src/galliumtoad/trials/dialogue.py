@@ -10,6 +10,7 @@ from .run import without_lengths
 
 EXPLAINS = "trace_explain"
 SUMMARY = "\nsummary\n"  # its block at the end, which counts commands
+SHOWN = 150  # lines at the start and at the end of a long one
 RESET, FAULT = "reset", "fault: "  # lines without bytes
 
 
@@ -80,9 +81,12 @@ class Dialogue:
         return "" if done.returncode else done.stdout
 
     def text(self) -> str:
-        """The dialogue for people."""
+        """The dialogue for people, without the middle of a long one."""
         said = f"\n{self.explained()}".partition(SUMMARY)[0].lstrip("\n")
-        return said or "\n".join(self.lines)
+        lines = said.splitlines() if said else self.lines
+        if (count := len(lines) - 2 * SHOWN) > 0:
+            lines = [*lines[:SHOWN], f".. {count} lines", *lines[-SHOWN:]]
+        return "\n".join(lines)
 
     def titles(self) -> list[str]:
         """The name of each exchange, as VERIFY."""

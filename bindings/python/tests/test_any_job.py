@@ -678,4 +678,8 @@ def test_what_can_not_be_tried(capsys, words, said):
 
 def test_the_list(capsys):
     assert main([*SAFE, "--list"]) == 0
-    assert capsys.readouterr().out.count("\n\n") == len(rows()) - 1
+    shown = capsys.readouterr().out.split("\n\n")
+    assert len(shown) == len(rows())
+    for text in ("mute\nA good terminal reports it, after the waiting time.\nISO/IEC 7816-3, ",
+                 "status 6283, at A4\nIt may pass.\nISO/IEC 7816-4, "):
+        assert any(it.startswith(text) for it in shown)

@@ -83,12 +83,15 @@ def job_of(given: argparse.Namespace, terminal: engine.Terminal) -> Union[FixedJ
     return job
 
 
-def show_list(is_any: bool) -> None:
-    """Prints the faults."""
-    listed = ([(it.words, it.which, it.expected, it.clause) for it in rows()] if is_any else
-              [(it.name, it.faults, it.expected, it.clause) for it in trials()])
-    print("\n\n".join(f"{name}: {faults}\nA good terminal {expected}.\n{clause}"
-                      for name, faults, expected, clause in listed))
+def show_trials() -> None:
+    """Prints the trials of the fixed job."""
+    print("\n\n".join(f"{it.name}: {it.faults}\nA good terminal {it.expected}.\n{it.clause}"
+                      for it in trials()))
+
+
+def show_faults() -> None:
+    """Prints the faults of any job."""
+    print("\n\n".join(it.text for it in rows()))
 
 
 def selected(job: Union[FixedJob, AnyJob], given: argparse.Namespace) -> list[Trial]:
@@ -133,7 +136,7 @@ def main(words: Optional[list[str]] = None) -> int:
     """Runs the program. Returns the exit status."""
     given = parser().parse_args(words)
     if given.list:
-        show_list(bool(given.card))
+        (show_faults if given.card else show_trials)()
         return 0
     terminal = terminal_of(given)
     job = job_of(given, terminal)

@@ -25,6 +25,13 @@ class Row:
     clause: str
     fault: Fault
 
+    @property
+    def text(self) -> str:
+        """Its lines in a list."""
+        name = f"{self.words}, {self.which}" if self.which else self.words
+        who = "It" if self.expected.startswith(MAY_PASS) else "A good terminal"
+        return f"{name}\n{who} {self.expected}.\n{self.clause}"
+
     def is_for(self, step: Step) -> bool:
         """Whether the fault is for a command, and changes anything there."""
         kind, values = self.fault.kind, self.fault.values

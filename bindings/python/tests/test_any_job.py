@@ -676,6 +676,15 @@ def test_what_can_not_be_tried(capsys, words, said):
     assert main(words) == 2 and said in capsys.readouterr().err
 
 
+@pytest.mark.parametrize("option", ["--most=0", "--most=1.5", "--most=x", "--before='", "--seed=x"])
+def test_options_that_are_refused(capsys, option):
+    """Nothing that was tried is no success."""
+    with pytest.raises(SystemExit) as why:
+        main([*SAFE, option, *JOB])
+    said = f"argument {option.split('=')[0]}: "
+    assert why.value.code == 2 and said in capsys.readouterr().err
+
+
 def test_the_list(capsys):
     assert main([*SAFE, "--list"]) == 0
     shown = capsys.readouterr().out.split("\n\n")

@@ -18,7 +18,7 @@ from .run import RESET, Run
 from .trial import Trial
 from .usual import Usual
 
-CHANGES_DATA = (*DATA, "forget", "early status")
+CHANGES_DATA = (*DATA, "forget")
 
 
 class AnyRun(Run):

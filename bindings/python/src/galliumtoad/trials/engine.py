@@ -14,7 +14,7 @@ from dataclasses import dataclass
 from queue import Empty, SimpleQueue
 from select import select
 from subprocess import DEVNULL, PIPE, STDOUT, Popen, TimeoutExpired
-from typing import Any, Iterator, Mapping, Optional, Union
+from typing import Any, Iterator, Mapping, Optional, Sequence, Union
 
 from ..faults import CONTROLS, Mistake
 from ..simulate import connected, serve_pty, talk_vpcd
@@ -38,8 +38,8 @@ class Terminal:
     names: Mapping[str, str]
     vpcd: str
     limit: float
-    before: str = ""
-    after: str = ""
+    before: Sequence[str] = ()
+    after: Sequence[str] = ()
     has_home: bool = False
 
     @property
@@ -84,7 +84,7 @@ class Room:
     def __exit__(self, *_: object) -> None:
         shutil.rmtree(self.tmp, ignore_errors=True)  # a process that is left may write there
 
-    def filled(self, words: list[str]) -> list[str]:
+    def filled(self, words: Sequence[str]) -> list[str]:
         """The words of a command line with the names in them."""
         return [re.sub(r"\{(\w+)\}", lambda it: self.names.get(str(it[1]), str(it[0])), word)
                 for word in words]
@@ -96,7 +96,7 @@ class Room:
                 text = re.sub(rf"{re.escape(value)}(?!\w)", f"{{{name}}}", text)
         return text
 
-    def ended(self, words: list[str], limit: float) -> tuple[Optional[int], bytes]:
+    def ended(self, words: Sequence[str], limit: float) -> tuple[Optional[int], bytes]:
         """Runs a command line until it ends or the limit. Returns its exit status, if it has ended,
         and the last megabyte of its output."""
         program: Any = Popen(self.filled(words), 0, stdin=DEVNULL, stdout=PIPE, stderr=STDOUT,
@@ -116,13 +116,13 @@ class Room:
             out.close()
         return status, output
 
-    def done(self, option: str, command: str, limit: float) -> None:
-        """Runs a command around a run. Raises `Mistake` if it fails."""
-        if command:
-            status, output = self.ended(shlex.split(command), limit)
-            if status != 0:
-                end = "did not end" if status is None else f"ended with {status}"
-                raise Mistake(f"{option} {command}: it {end}: {as_text(output)[-2000:].strip()}")
+    def done(self, option: str, words: Sequence[str], limit: float) -> None:
+        """Runs a command around a run, if there is one. Raises `Mistake` if it fails."""
+        status, output = self.ended(words, limit) if words else (0, b"")
+        if status != 0:
+            end = "did not end" if status is None else f"ended with {status}"
+            said = as_text(output)[-2000:].strip()
+            raise Mistake(f"{option} {shlex.join(words)}: it {end}: {said}")
 
 
 class Service(threading.Thread):

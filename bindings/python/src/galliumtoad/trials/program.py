@@ -1,6 +1,7 @@
 """The program: lets a terminal do a job with cards that misbehave, and judges it."""
 
 import argparse
+import shlex
 import sys
 from pathlib import Path
 from typing import Any, Optional, Union
@@ -46,17 +47,27 @@ def parser() -> argparse.ArgumentParser:
     return it
 
 
+def count(text: str) -> int:
+    """Reads a number from 1 on. Raises `ValueError`."""
+    it = number(text)
+    if it < 1 or isinstance(it, float):
+        raise ValueError(text)
+    return int(it)
+
+
 def add_any_job(it: "argparse._ArgumentGroup") -> None:
     it.add_argument("--card", metavar="CARD", help="MODULE:CLASS of an Application, or a capture:"
                     " TERMINAL does any job with that card; each fault strikes at each command")
     it.add_argument("--expect", metavar="FILE", help="verdicts of your own, a line each:"
                     " `at command 7 status 6983: may pass`, or a verdict in place of `may pass`")
-    it.add_argument("--most", type=number, metavar="N", help="tries at most N, chosen by --seed")
+    it.add_argument("--most", type=count, metavar="N", help="tries at most N, chosen by --seed")
     it.add_argument("--seed", type=number, default=0, metavar="N", help="without it 0")
     it.add_argument("--keep", metavar="FILE", help="keeps results there until the run ends, so that"
                     " the same words continue a run that ended early")
-    it.add_argument("--before", metavar="COMMAND", default="", help="runs before each run")
-    it.add_argument("--after", metavar="COMMAND", default="", help="runs after each run")
+    it.add_argument("--before", type=shlex.split, metavar="COMMAND", default=[],
+                    help="runs before each run, without a shell")
+    it.add_argument("--after", type=shlex.split, metavar="COMMAND", default=[],
+                    help="runs after each run")
 
 
 def terminal_of(given: argparse.Namespace) -> engine.Terminal:

@@ -1,6 +1,7 @@
 """Tests trials of any job with any card: what they leave out, keep and show. What they find is in
 test_bad_jobs.py."""
 
+import contextlib
 import json
 import os
 import re
@@ -14,10 +15,12 @@ from collections import Counter
 from pathlib import Path
 from xml.etree import ElementTree
 
+import any_cards
 import pytest
-from galliumtoad.faults import Mistake
+from galliumtoad import Level
+from galliumtoad.faults import Gone, Mistake
 from galliumtoad.trials import engine, expect, main, program, progress, report
-from galliumtoad.trials.any_job import chosen
+from galliumtoad.trials.any_job import AnyRun, chosen
 from galliumtoad.trials.dialogue import Dialogue, Exchange, Step
 from galliumtoad.trials.kept import Kept
 from galliumtoad.trials.output import Output
@@ -304,6 +307,68 @@ def test_a_dialogue():
         it.reset()
     assert it.lines[-2:] == ["> 8040000A", "reset"]
     assert "\n#2 GET RESPONSE" in it.text() and "summary" not in it.text()
+
+
+CHOOSE, PAY, ASK = "00A4040005A000000003", "8040000A00", "8050000001"
+
+
+def ran(card, faults, commands, usual=None, protocol=1):
+    """A run that got these whole commands, or TPDUs at T=0."""
+    it = AnyRun(Trial("a", faults, "may pass", "b"), card, protocol, usual)
+    it.level = Level.APDU if protocol else Level.TPDU
+    it.reset()
+    for command in commands:
+        with contextlib.suppress(Gone):
+            it.whole(COMMAND(command))
+    return it
+
+
+def test_what_a_card_has_carried_out():
+    """Each command once, with the resets: also at T=0 after 6CXX, and with a fault that does it
+    twice, but not one that the card did not get."""
+    select, paid, told = map(COMMAND, (CHOOSE, PAY, "8050000000"))
+    for faults, protocol, commands, expected in [
+            ("", 1, [CHOOSE, PAY, ASK], [RESET, select, paid, told]),
+            ("", 0, [CHOOSE, PAY, "8050000000", ASK], [RESET, select, paid, told]),
+            ("command 2, twice", 1, [CHOOSE, PAY, ASK], [RESET, select, paid, told]),
+            ("command 2, reset", 1, [CHOOSE, PAY], [RESET, select, RESET, paid]),
+            ("command 2, refuse 6F00", 1, [CHOOSE, PAY, PAY], [RESET, select, paid]),
+            ("command 2, status 6F00", 1, [CHOOSE, PAY, PAY], [RESET, select, paid, paid]),
+            ("command 2, mute", 1, [CHOOSE, PAY, PAY], [RESET, select, paid])]:
+        assert ran(any_cards.Purse(), faults, commands, protocol=protocol).commands == expected
+
+
+def test_what_a_fault_has_changed():
+    """Data, or a status, if the output names it."""
+    first = ran(any_cards.Purse(), "", [CHOOSE, PAY, ASK])
+    usual = Usual(("90 of 9000", "90 of 9000"), (first.dialogue, first.dialogue),
+                  (first.commands, first.commands))
+    for faults, output, is_true, is_changed in [
+            ("command 3, forget", "", False, True), ("command 3, add 00", "", False, True),
+            ("command 3, add 00", "90 of 9000", True, True), ("command 2, forget", "", False, True),
+            ("command 2, twice", "80", False, True), ("command 2, delay 0s", "", False, False),
+            ("command 2, status 6200", "", False, False),
+            ("command 2, status 6200", "SW1=0x62, SW2=0x00", False, True),
+            ("command 2, status 6200", "62 is not the whole of the status, but 00", False, False),
+            ("command 1, reset", "9000 90 00", False, False)]:
+        it = ran(any_cards.Purse(), faults, [CHOOSE, PAY, ASK], usual)
+        it.judge(0, output)
+        assert (it.trial.is_true, it.trial.is_changed, it.trial.is_twice) == (
+            is_true, is_changed, False)
+    it = ran(any_cards.Purse(), "command 2, status 6F00", [CHOOSE, PAY, PAY, ASK], usual)
+    it.judge(1, "")
+    assert it.trial.is_twice and it.trial.verdict == "twice"
+    assert it.trial.happened == "exit status 1; other output"
+    it.judge(0, "")
+    assert it.trial.happened == "exit status 0; 0 lines of output, not 1"
+
+
+def test_the_answer_to_reset_of_a_card():
+    card = any_cards.Purse()
+    assert [ran(any_cards.Purse(), "", [], protocol=it).atr.hex() for it in (0, 1)] == [
+        "3b00", "3b800181"]
+    card.atr = bytes.fromhex("3B80800101")
+    assert ran(card, "", []).atr == card.atr
 
 
 def test_a_long_dialogue():

@@ -335,7 +335,10 @@ def test_what_a_card_has_carried_out():
             ("command 2, refuse 6F00", 1, [CHOOSE, PAY, PAY], [RESET, select, paid]),
             ("command 2, status 6F00", 1, [CHOOSE, PAY, PAY], [RESET, select, paid, paid]),
             ("command 2, mute", 1, [CHOOSE, PAY, PAY], [RESET, select, paid])]:
-        assert ran(any_cards.Purse(), faults, commands, protocol=protocol).commands == expected
+        it = ran(any_cards.Purse(), faults, commands, protocol=protocol)
+        assert it.commands == expected and it.dialogue.lines[0] == "reset"
+    it = ran(any_cards.Purse(), "command 2, reset", [CHOOSE, PAY])
+    assert it.dialogue.exchanges[-1].answer.hex() == "6985"  # nothing is selected
 
 
 def test_what_a_fault_has_changed():

@@ -344,13 +344,14 @@ def test_what_a_card_has_carried_out():
 def test_what_a_fault_has_changed():
     """Data, or a status, if the output names it."""
     first = ran(any_cards.Purse(), "", [CHOOSE, PAY, ASK])
-    usual = Usual(("90 of 9000", "90 of 9000"), (first.dialogue, first.dialogue),
+    usual = Usual(("90 of 6281",) * 2, (first.dialogue, first.dialogue),
                   (first.commands, first.commands))
     for faults, output, is_true, is_changed in [
             ("command 3, forget", "", False, True), ("command 3, add 00", "", False, True),
-            ("command 3, add 00", "90 of 9000", True, True), ("command 2, forget", "", False, True),
+            ("command 3, add 00", "90 of 6281", True, True), ("command 2, forget", "", False, True),
             ("command 2, twice", "80", False, True), ("command 2, delay 0s", "", False, False),
             ("command 2, status 6200", "", False, False),
+            ("command 2, status 6281", "no more than usual: 6281", False, False),
             ("command 2, status 6200", "SW1=0x62, SW2=0x00", False, True),
             ("command 2, status 6200", "62 is not the whole of the status, but 00", False, False),
             ("command 1, reset", "9000 90 00", False, False)]:

@@ -18,9 +18,9 @@ from xml.etree import ElementTree
 import any_cards
 import pytest
 from galliumtoad import Level
-from galliumtoad.faults import Gone, Mistake
+from galliumtoad.faults import ANYWHERE, ECHO, LINE, T0, T1, Gone, Mistake
 from galliumtoad.trials import engine, expect, main, program, progress, report
-from galliumtoad.trials.any_job import AnyRun, chosen
+from galliumtoad.trials.any_job import AnyJob, AnyRun, chosen
 from galliumtoad.trials.dialogue import Dialogue, Exchange, Step
 from galliumtoad.trials.kept import Kept
 from galliumtoad.trials.output import Output
@@ -403,6 +403,21 @@ def test_what_is_usual():
     assert not it.has_other_data(talk((1, "00B0000000", "009000")))
     assert [step.number for step in it.steps] == [1, 2]
     assert usual_of(FILE, FILE[:2]).left_out[0] == "commands after 1"
+
+
+@pytest.mark.parametrize(
+    ("is_line", "is_t1", "places"),
+    [(False, False, {ANYWHERE}), (False, True, {ANYWHERE}), (True, True, {ANYWHERE, T1}),
+     (True, False, {ANYWHERE, LINE, T0, ECHO})],
+)
+def test_the_faults_of_a_job(is_line, is_t1, places):
+    """Those that can happen where the terminal is."""
+    job = AnyJob("any_cards:Safe", is_line, 0)
+    job.usual, job.is_t1 = usual_of(FILE, FILE), is_t1
+    found = job.trials()
+    assert {it.place for trial in found for it in trial.read()} == places
+    assert len(found) == len({it.name for it in found})
+    assert {it.command for it in found} == {1, 2, 3}
 
 
 def test_what_was_carried_out_too_often():

@@ -20,7 +20,7 @@ import pytest
 from galliumtoad import Level
 from galliumtoad.faults import ANYWHERE, ECHO, LINE, T0, T1, Gone, Mistake
 from galliumtoad.trials import engine, expect, main, program, progress, report
-from galliumtoad.trials.any_job import AnyJob, AnyRun, chosen
+from galliumtoad.trials.any_job import AnyJob, AnyRun, card_of, chosen
 from galliumtoad.trials.dialogue import Dialogue, Exchange, Step
 from galliumtoad.trials.kept import Kept
 from galliumtoad.trials.output import Output
@@ -467,6 +467,19 @@ def test_a_capture_as_a_card(tmp_path, capsys):
     assert names_of(capsys.readouterr().out) == names_of(shown)
     capture.write_text("> 00\n")
     assert main([*words, *JOB]) == 2
+
+
+def test_a_capture_that_is_left_out_in_part(tmp_path, capsys):
+    wrong = {"type": "error", "line": 7, "text": "unexpected byte"}
+    header = dict.fromkeys(("cla", "ins", "p1", "p2", "p3"), "80")
+    tpdu = {**header, "line": 1, "sent": "", "received": "", "status": "9000"}
+    lines = [json.dumps(it, separators=(",", ":")) for it in (
+        {"type": "command", "tpdus": [tpdu]}, wrong)]
+    (tmp_path / "capture").write_text("\n".join(lines))
+    card = card_of(str(tmp_path / "capture"))
+    said = f"{tmp_path}/capture: line 7: unexpected byte: left out\n"
+    assert capsys.readouterr().err == said
+    assert AnyJob(card, True, 0).new_card() is not card  # which keeps its place
 
 
 def test_files_of_results(tmp_path, capsys):

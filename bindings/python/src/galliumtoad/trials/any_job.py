@@ -161,13 +161,12 @@ def is_t1(atr: bytes) -> bool:
 
 def card_of(name: str) -> Union[Replay, str]:
     """A capture that is read, or MODULE:CLASS. Prints what is left out. Raises `Mistake`."""
-    if Path(name).is_file():
-        it = Replay(name)
-        for line in it.left_out:
-            print(line, file=sys.stderr, flush=True)
-        return it
-    application(name)
-    return name
+    if not Path(name).is_file():
+        return name
+    it = Replay(name)
+    for line in it.left_out:
+        print(line, file=sys.stderr, flush=True)
+    return it
 
 
 def chosen(trials: Iterable[Trial], only: str, most: Optional[int], seed: int) -> list[Trial]:

@@ -269,7 +269,7 @@ def test_a_card_that_can_not_be_served(monkeypatch, capsys):
     def fails(*_):
         raise OSError("out of pty devices")
     monkeypatch.setattr(engine, "serve_pty", fails)
-    monkeypatch.setattr(engine, "AWAIT_READER", 1e6)
+    monkeypatch.setattr(engine, "AWAIT_READER", 20)
     assert main([*SAFE, "--", "sleep", "1000", "{tty}"]) == 2
     assert capsys.readouterr().err == "out of pty devices\n"
 

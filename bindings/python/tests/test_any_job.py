@@ -98,7 +98,11 @@ def test_how_often_a_card_carried_out_a_command(commands, found):
      ("at 12:30 DOE", "at 12:31 DOE", "at 13:30 DOE",
       "line 1 is 'at 13:30 DOE', not 'at 12:30 DOE'"),
      ("x\nDOE", "x y\nDOE", "anything\nDOE", ""), ("x\nDOE", "x y\nDOE", "x\nROE", "line 2 is"),
+     ("a.b", "a.b", "axb", "line 1 is 'axb'"), ("a-b", "a+b", "a*b", ""),
      # any number of lines in the place of some
+     ("a\nw\nw\nb", "a\nb", "z\na\nb", "lines are"),
+     ("a\nw\nw\nb", "a\nb", "a\nb\nz", "lines are"),
+     ("a\nw\na\nx\ny\na", "a\na\na", "a\nz\na", "lines are"),
      ("a\nwait\nwait\nb", "a\nb", "a\nwait\nb", ""),
      ("a\nwait\nwait\nb", "a\nb", "a\nc", "lines are"),
      ("a\nwait\nwait\nb", "a\nb", "c\nwait\nb", "lines are"), ("a\nw\nb", "a\nb", "b", "lines are"),

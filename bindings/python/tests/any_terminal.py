@@ -39,7 +39,7 @@ def read(count):
         wait = None if has("no limit of time") else SECONDS
         if not select.select([line], [], [], wait)[0]:
             fail("silence")
-        found += os.read(line, count - len(found))
+        found += os.read(line, count - len(found)) or sys.exit("the line is gone")
     return found
 
 

@@ -42,7 +42,7 @@ def read(count=1, seconds=SECONDS):
 
 
 def now(most):
-    """The characters that are there, up to so many. Without a card's end the terminal ends, too."""
+    """The characters that are there, at most `most`. If the card's end is gone, so is this one."""
     return os.read(line, most) or sys.exit("the line is gone")
 
 

@@ -306,8 +306,8 @@ get_responds old mid tag p1 p2 p idle names due (inner, brings, goes) =
                 (all_content rest) p.status whole_q refl
                 (λ r later suits_r (u, of_u, does_u).
                 get_again next later tag value p1 p2 n r u old rests names
-                (suits_r.is_due ∙ ap (λ (x : Place). command_at x) (sym here)) refl few held same of_u
-                does_u) others in
+                (suits_r.is_due ∙ ap (λ (x : Place). command_at x) (sym here)) refl few held same
+                of_u does_u) others in
                 rw (sym content, empty)
                 (first_alike next old mid (Get tag) (all_content rest) p.status
                 (sym same.0, sym same.1) all)

@@ -32,7 +32,8 @@ follows_as : (ex : ApduExchangeOf) (came : ℕ) (status : StatusWord)
     → follow (place_of ex) came status
     ≡ leads (place_of ex) came (next_of ex (length ex.gather.bytes + came) status)
 follows_as ex came status =
-    ap (λ w. leads (place_of ex) came (following ex.attempt (length ex.gather.bytes + came) w status))
+    ap (λ w. leads (place_of ex) came
+    (following ex.attempt (length ex.gather.bytes + came) w status))
     (less_less ex.wanted (length ex.gather.bytes) came)
 
 -- ---- pairs

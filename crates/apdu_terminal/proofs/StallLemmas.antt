@@ -153,8 +153,9 @@ last_after Sound One takes total at mid (p ∷ before) last s new sits (next, su
     suits (then_so, is, others) =
     let (l, some) = after_pair Sound One takes total at p s then_so sits suits_p is in
     let (all, last_some) = last_after Sound One takes (total + length p.content) next mid before
-    last then_so new (next_sits Sound total at next p.content p.status then_so l some sits.begun goes) rest
-    suits others in
+    last then_so new
+    (next_sits Sound total at next p.content p.status then_so l some sits.begun goes) rest suits
+    others in
     let sum : (total + length p.content) + length (all_content (before ++ last ∷ []))
     ≡ total + length (all_content (p ∷ (before ++ last ∷ []))) =
     omega (arith, length-append p.content (all_content (before ++ last ∷ []))) in

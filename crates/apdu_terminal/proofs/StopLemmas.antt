@@ -173,7 +173,8 @@ get_at old mid tag p1 p2 (p ∷ here) at idle names (next, suits, follows, rest)
     (then_at, one, others) =
     let first = first_place (get_command p1 p2) Everything in
     let f = get_responds old then_at tag p1 p2 p idle names suits.is_due one in
-    let q : IsQuiet next.attempt.header = quiet_on first next (length p.content) p.status (refl, refl)
+    let q : IsQuiet next.attempt.header =
+    quiet_on first next (length p.content) p.status (refl, refl)
     (comes first next (length p.content) p.status follows) in
     let (same, quiet) = through_keeps (Responds Does) response_keeps next at here then_at mid q rest
     others in
@@ -287,7 +288,8 @@ one_command c (d ∷ []) (g ∷ n ∷ gone) current left are taken = absurd take
 
 -- after these pairs of an exchange this is its next command
 abbrev At : Command → Command → List Pair → Type 0
-At c due here = (at : Place) × GoesThrough (first_place c (wanted_by c.le)) here at × (command_at at ≡ due)
+At c due here = (at : Place) × GoesThrough (first_place c (wanted_by c.le)) here at
+    × (command_at at ≡ due)
 
 stands_at : (operation : Operation) (pairs : List Pair) (due : Command)
     (u : IsUnderWay operation pairs due) → At u.led.0.current due u.led.0.here

@@ -20,8 +20,8 @@ pub record Pair : Type 0 where
   pub content : List ℕ
   pub status : StatusWord
 
--- The place of an exchange between two pairs: that of the next command, its data and Le, how much is
--- still wanted, and how many bytes have come.
+-- The place of an exchange between two pairs: that of the next command, its data and Le, how much
+-- is still wanted, and how many bytes were received.
 pub record Place : Type 0 where
   pub attempt : Attempt
   pub content : List ℕ

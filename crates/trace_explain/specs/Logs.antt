@@ -290,7 +290,8 @@ IsBadFirst bad.OutOfMemory has_bytes line found = Unit {0}
 IsBadFirst other has_bytes line found = ⊥
 
 -- It can't be read after these bytes if they are pending.
-abbrev pub IsBadRest : LineFault → End → LogAt → Option (Saying × Marked) → List ℕ → ReadsAs → Type 0
+abbrev pub IsBadRest : LineFault → End → LogAt → Option (Saying × Marked) → List ℕ → ReadsAs
+    → Type 0
 IsBadRest why from at None line found = IsBadFirst why at.has_bytes line found
 IsBadRest bad.Twofold from at (Some (says, m)) line found = IsTwofold from says at.bytes m
 IsBadRest bad.TooLong from at (Some (says, m)) line found = IsTooMuch at.bytes m.bytes

@@ -18,7 +18,7 @@ const LINES: usize = 256;
 /// The most bytes of these, up to a last chunk.
 const BYTES: usize = 65_536;
 
-/// A form may refuse one command or answer for each of so many lines.
+/// The number of lines for each command or answer that a form may refuse.
 const FEW: usize = 8;
 
 /// The layout of a try.
@@ -94,7 +94,7 @@ fn refusing_few(
             let reading = tried.reading(alloc, forms)?;
             let count = lines_read(alloc, &reading.rows, whole_lines(head))?;
             let few = if least == 0 { count } else { count / FEW };
-            if count >= most && count > 0 && refuses_few(alloc, reading, head, few) {
+            if count >= most && refuses_few(alloc, reading, head, few) {
                 if count > most {
                     found.clear();
                 }
@@ -201,8 +201,8 @@ fn lines_read(alloc: Global, rows: &Rows, lines: &[u8]) -> Result<usize, AllocEr
     Ok(count)
 }
 
-/// Returns these first lines without one that is cut off: up to the last LF, with it; all if no more
-/// follow, or without LF.
+/// Returns these first lines without one that is cut off: up to the last LF, with it. All if no
+/// more follow, or without LF.
 fn whole_lines(head: &[u8]) -> &[u8] {
     if !is_cut(head) {
         return head;

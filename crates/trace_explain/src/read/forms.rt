@@ -288,10 +288,10 @@ fn apart(says: Saying, parts: &mut [Part]) -> Option<Saying> {
     if !matches!(says, Saying::Both) {
         return Some(says);
     }
-    let mut fields = 0;
+    let mut fields: usize = 0;
     for part in parts {
         if let Part::Bytes(stop) = *part {
-            fields += 1;
+            fields = fields.saturating_add(1);
             if fields == 2 {
                 *part = Part::Status(stop);
             }

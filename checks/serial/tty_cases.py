@@ -556,8 +556,17 @@ def card_settings():
                                               answer="3B8081210323"))
 
 
+def two_ports(name):
+    """Two ports of one program, in the way of Linux or in that of other systems."""
+    program = Program(name, [])
+    status = program.end()
+    assert not status, f"status {status}: {program.output}{program.faults}"
+
+
 def tests():
     """Each test of this part: its title, and a function that raises an error if it fails."""
+    for name in ("ports", "ports_by_termios"):
+        yield (f"two {name}", lambda name=name: two_ports(name))
     for part in (resets, second_resets, rates, refusals, parities, without_echo, card_resets,
                  card_settings):
         yield from part()

@@ -5,9 +5,10 @@
  * and passes characters both ways until the next reset. See `serial_card --help`. */
 #include "serial_answer.h"
 #include "serial_options.h"
+#include "serial_pty.h"
+#include "serial_signals.h"
 #include "serial_t1.h"
 #include "table.h"
-#include "text.h"
 
 #include <string.h>
 
@@ -46,9 +47,10 @@ static const char IS_RESET[] = "the card was reset";
 /* A card at its line. */
 struct socket {
     struct line *line;
+    struct serial_pty *pty;     /* that this program makes, or NULL */
     struct table *table;
     const gt_atr *says;         /* the values of its answer to reset */
-    enum port_signal reset;
+    enum gt_port_signal reset;
     bool is_held_by_on;
     unsigned long baud;         /* at a reset */
     int protocol;               /* T=0 or T=1 */
@@ -58,14 +60,13 @@ struct socket {
  * terminal has closed its end, NULL if neither, or a fault. */
 static const char *look(const struct socket *socket, bool is_held)
 {
-    const struct port *port = socket->line->port;
     bool is_on = false;
     const char *fault = NULL;
-    if (port->is_made)
-        return port_is_closed(port) ? LINE_IS_GONE : NULL;
+    if (socket->pty != NULL)
+        return serial_pty_is_closed(socket->pty) ? LINE_IS_GONE : NULL;
     if (socket->reset == PORT_NONE)
         return NULL;
-    fault = port_look(port, socket->reset, &is_on);
+    fault = gt_port_look(socket->line->port, socket->reset, &is_on);
     if (fault != NULL)
         return fault;
     return (is_on == socket->is_held_by_on) == is_held ? IS_RESET : NULL;
@@ -76,7 +77,7 @@ static const char *await_state(const struct socket *socket, bool is_held)
 {
     const char *what;
     while ((what = look(socket, is_held)) == NULL)
-        port_sleep_until(port_now() + LOOKS_EVERY);
+        gt_port_sleep_until(gt_port_now() + LOOKS_EVERY);
     return what == IS_RESET ? NULL : what;
 }
 
@@ -85,23 +86,23 @@ static const char *await_state(const struct socket *socket, bool is_held)
  * until the reset. */
 static const char *await_reset(const struct socket *socket, const char *before)
 {
-    struct port *port = socket->line->port;
+    struct serial_pty *pty = socket->pty;
     const bool is_mute = before != NULL && before != IS_RESET && before != LINE_IS_GONE;
     const char *fault = NULL;
-    if (!port->is_made && (before == LINE_IS_GONE || socket->reset == PORT_NONE))
+    if (pty == NULL && (before == LINE_IS_GONE || socket->reset == PORT_NONE))
         return before;
     if (is_mute)
         program_tell(before);
-    if (port->is_made) {
+    if (pty != NULL) {
         if (is_mute)
-            port_await_closing(port);
-        return port_await_opening(port);
+            serial_pty_await_closing(pty);
+        return serial_pty_await_opening(pty);
     }
     if (before != IS_RESET)
         fault = await_state(socket, true);
     if (fault == NULL)
         fault = await_state(socket, false);
-    port_drop(port);
+    gt_port_drop(socket->line->port);
     return fault;
 }
 
@@ -338,18 +339,20 @@ static const char *talk(struct socket *socket)
 }
 
 /* Serves one dialogue after another, until no reset can come. */
-static int serve(struct port *port, struct table *table, const gt_atr *says)
+static int serve(struct gt_port *port, struct serial_pty *pty, struct table *table,
+                 const gt_atr *says)
 {
     struct line line = serial_options_line(&options, port, LINE_CARD);
-    struct socket socket = { NULL, NULL, NULL, PORT_NONE, false, 0, 0 };
+    struct socket socket = { NULL, NULL, NULL, NULL, PORT_NONE, false, 0, 0 };
     const char *what = NULL, *fault;
-    if (port->is_made && options.has_echo)
+    if (pty != NULL && options.has_echo)
         line.echo = LINE_GIVES_ECHO;
     line.is_inverse = says->convention == GT_INVERSE;
     socket.line = &line;
+    socket.pty = pty;
     socket.table = table;
     socket.says = says;
-    socket.reset = port->is_pseudo ? PORT_NONE : (enum port_signal)options.reset;
+    socket.reset = port->is_pseudo ? PORT_NONE : (enum gt_port_signal)options.reset;
     socket.is_held_by_on = options.is_held_by_on;
     socket.baud = options.baud;
     while ((fault = await_reset(&socket, what)) == NULL) {
@@ -361,19 +364,33 @@ static int serve(struct port *port, struct table *table, const gt_atr *says)
     return program_tell(fault);
 }
 
-static int open_and_serve(struct table *table, const gt_atr *says, const char *tty)
+/* Serves the card at a pseudo terminal, whose name it prints. */
+static int make_and_serve(struct table *table, const gt_atr *says)
 {
-    struct port port;
+    struct serial_pty pty;
     int result;
-    const char *fault = makes_line ? port_make(&port) : port_open(&port, tty, options.baud);
+    const char *fault = serial_pty_make(&pty);
     if (fault != NULL)
         return program_tell(fault);
-    if (makes_line)
-        printf("%s\n", port.name);
+    printf("%s\n", pty.port.name);
     result = program_end_output();
     if (result == ALL_WELL)
-        result = serve(&port, table, says);
-    port_close(&port);
+        result = serve(&pty.port, &pty, table, says);
+    serial_pty_close(&pty);
+    return result;
+}
+
+static int open_and_serve(struct table *table, const gt_atr *says, const char *tty)
+{
+    static struct gt_port port;
+    int result;
+    const char *fault = serial_signals_open(&port, tty, options.baud);
+    if (fault != NULL)
+        return program_tell(fault);
+    result = program_end_output();
+    if (result == ALL_WELL)
+        result = serve(&port, NULL, table, says);
+    gt_port_close(&port);
     return result;
 }
 
@@ -432,7 +449,8 @@ static int run(char *const *words, size_t count)
     fault = read_answer(&table, &says);
     result = fault == NULL ? add_plans(&table.card) : program_tell(fault);
     if (result == ALL_WELL)
-        result = open_and_serve(&table, &says, words[0]);
+        result = makes_line ? make_and_serve(&table, &says)
+                            : open_and_serve(&table, &says, words[0]);
     gt_card_free(&table.card);
     return result;
 }

@@ -3,9 +3,9 @@
  * ways, each within the line's times. `gt_serial --help` says what it does. */
 #include "serial_answer.h"
 #include "serial_options.h"
+#include "serial_signals.h"
 #include "serial_t1.h"
 #include "steps.h"
-#include "text.h"
 
 #include <string.h>
 
@@ -47,7 +47,7 @@ struct session {
 /* A command begins, and must end in time. */
 static void begin_command(const struct session *session)
 {
-    session->line->port->until = port_now() + session->patience;
+    session->line->port->until = gt_port_now() + session->patience;
 }
 
 /* Words why the terminal does not take the last byte heard. A card that resets itself sends TS
@@ -258,7 +258,7 @@ static const char *go_on(struct session *session, struct answer *answer)
 }
 
 /* Resets the card, and carries out the steps with it. */
-static int run_over(struct port *port, const struct script *script)
+static int run_over(struct gt_port *port, const struct script *script)
 {
     struct line line = serial_options_line(&options, port, LINE_TERMINAL);
     struct session session = { NULL, 0, 0, { NULL, { 0, 0, 0 }, GT_INIT } };
@@ -269,8 +269,9 @@ static int run_over(struct port *port, const struct script *script)
     steps.line = &session;
     session.line = &line;
     session.patience = (int64_t)patience * 1000000;
-    wishes.reset = (enum port_signal)options.reset;
+    wishes.reset = (enum gt_port_signal)options.reset;
     wishes.is_held_by_on = options.is_held_by_on;
+    wishes.opens_again = false;
     wishes.patience = session.patience;
     fault = answer_take(&answer, &line, &wishes);
     if (fault == NULL && script->count == 0)
@@ -285,8 +286,8 @@ static int run_over(struct port *port, const struct script *script)
 /* The first word is the tty. */
 static int run(char *const *words, size_t count)
 {
+    static struct gt_port port;
     struct script script;
-    struct port port;
     const char *fault;
     int result;
     if (count == 0)
@@ -294,10 +295,9 @@ static int run(char *const *words, size_t count)
     result = script_read(&script, file, words + 1, count - 1);
     if (result != ALL_WELL)
         return result;
-    fault = port_open(&port, words[0], options.baud);
+    fault = serial_signals_open(&port, words[0], options.baud);
     result = fault != NULL ? program_tell(fault) : run_over(&port, &script);
-    if (fault == NULL)
-        port_close(&port);
+    gt_port_close(&port);
     script_free(&script);
     return result;
 }

@@ -1,5 +1,5 @@
 #include "operation.h"
-#include "text.h"
+#include "program.h"
 
 #include <errno.h>
 #include <stdio.h>

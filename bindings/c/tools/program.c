@@ -2,7 +2,6 @@
 
 #include "program.h"
 #include "operation.h"
-#include "text.h"
 
 #include <fcntl.h>
 #include <stdio.h>
@@ -25,6 +24,8 @@ static const struct option SHARED[] = {
 
 /* the program that runs */
 static const struct program *own;
+
+struct text program_told;
 
 int program_tell(const char *fault)
 {

@@ -1,6 +1,6 @@
 #include "reader.h"
 #include "contactless.h"
-#include "text.h"
+#include "program.h"
 #include "waiting.h"
 
 #include <string.h>

@@ -2,7 +2,6 @@
 
 #include "script.h"
 #include "program.h"
-#include "text.h"
 
 #include <errno.h>
 #include <stdio.h>

@@ -5,9 +5,8 @@
 
 #include <string.h>
 
-/* the latest that an answer begins, in clock cycles (ISO/IEC 7816-3, 6.2.2), and how long the line
- * is held for a reset: 400 cycles are required, and slow readers take longer to pass them on */
-enum { BEGINS_BEFORE = 40000, IS_HELD_FOR = 50000 };
+/* the latest that an answer begins, in clock cycles (ISO/IEC 7816-3, 6.2.2) */
+enum { BEGINS_BEFORE = 40000 };
 
 enum { TS_OF_DIRECT = 0x3B, TS_OF_INVERSE = 0x3F };
 
@@ -31,10 +30,10 @@ int64_t answer_waiting_time(const struct answer *answer)
     return cycles(answer, 960 * fi * answer->says.waiting_integer);
 }
 
-/* Whether a line of the tty resets the card. */
+/* Whether the port resets the card. */
 static bool is_driven(const struct line *line, const struct answer_wishes *wishes)
 {
-    return !line->port->is_pseudo && wishes->reset != PORT_NONE;
+    return line->port->is_pseudo ? wishes->opens_again : wishes->reset != PORT_NONE;
 }
 
 /* Resets the card, and forgets its earlier answers. */
@@ -42,24 +41,18 @@ static const char *reset(struct answer *answer, const struct answer_wishes *wish
 {
     struct line *line = answer->line;
     const char *fault = NULL;
-    if (is_driven(line, wishes)) {
-        fault = port_drive(line->port, wishes->reset, wishes->is_held_by_on);
-        if (fault == NULL) {
-            port_sleep_until(port_now() + IS_HELD_FOR);
-            port_drop(line->port);
-            fault = port_drive(line->port, wishes->reset, !wishes->is_held_by_on);
-        }
-    }
+    if (is_driven(line, wishes))
+        fault = gt_port_reset(line->port, wishes->reset, wishes->is_held_by_on);
     answer->n = line->come_count = 0;
     if (fault == NULL)
         line_note_text(line, "reset");
     return fault;
 }
 
-static const char *tell_none(int32_t code, size_t place)
+static const char *tell_none(struct answer *answer, int32_t code, size_t place)
 {
-    return text_told("the answer to reset is invalid: %s, at byte %lu", gt_text(code),
-                     (unsigned long)place + 1);
+    return text_put(&answer->line->port->told, "the answer to reset is invalid: %s, at byte %lu",
+                    gt_text(code), (unsigned long)place + 1);
 }
 
 /* TS shows the convention: 3B, or 3F for the inverse one, which the direct one reads as 03. If it
@@ -67,16 +60,16 @@ static const char *tell_none(int32_t code, size_t place)
 static const char *take_first(struct answer *answer, int64_t wait)
 {
     struct line *line = answer->line;
-    const int64_t then = port_now() + wait;
+    const int64_t then = gt_port_now() + wait;
     bool has_other_parity;
     uint8_t raw = 0;
     size_t noise;
     for (noise = 0; raw != TS_OF_DIRECT && line_turned(raw) != TS_OF_INVERSE; noise++) {
         const char *fault = noise > ANSWER_NOISE_LIMIT
             ? LINE_IS_SILENT
-            : line_receive_first(line, &raw, &has_other_parity, then - port_now());
+            : line_receive_first(line, &raw, &has_other_parity, then - gt_port_now());
         if (fault == LINE_IS_SILENT)
-            return noise > 0 ? tell_none(GT_ATR_NO_TS, 0) : NO_ANSWER;
+            return noise > 0 ? tell_none(answer, GT_ATR_NO_TS, 0) : NO_ANSWER;
         if (fault != NULL)
             return fault;
     }
@@ -100,7 +93,8 @@ static const char *take_others(struct answer *answer)
             ? TOO_LONG
             : line_receive(answer->line, &answer->bytes[answer->n], wait);
         if (fault == LINE_IS_SILENT)
-            return text_told("the answer to reset stops after byte %lu", (unsigned long)answer->n);
+            return text_put(&answer->line->port->told, "the answer to reset stops after byte %lu",
+                            (unsigned long)answer->n);
         if (fault != NULL)
             return fault;
         answer->n++;
@@ -108,7 +102,7 @@ static const char *take_others(struct answer *answer)
     if (code == GT_ATR_TOO_LONG)
         return TOO_LONG;
     return code == GT_OK ? line_refuse_early(answer->line, answer->line->late)
-                         : tell_none(code, place);
+                         : tell_none(answer, code, place);
 }
 
 /* Takes the answer to a reset, which begins within this time. */

@@ -17,8 +17,9 @@
 
 /* How the card is reset. */
 struct answer_wishes {
-    enum port_signal reset;     /* the line that does it, or PORT_NONE */
+    enum gt_port_signal reset;     /* the line that does it, or PORT_NONE */
     bool is_held_by_on;         /* it holds the card in reset while it is on */
+    bool opens_again;           /* a pseudo terminal is opened again for it, unless it is fresh */
     int64_t patience;           /* how long somebody may take to reset the card by hand */
 };
 
@@ -35,8 +36,8 @@ struct answer {
  * next call. */
 
 /* Resets the card and reads its answer. Opening a pseudo terminal is already its reset, and so is a
- * reset by hand. If that fails, a line of the tty resets it a second time. Skips noise before TS.
- * After a second silence it returns the first fault. */
+ * reset by hand. If that fails, the port resets it a second time. Skips noise before TS. After a
+ * second silence it returns the first fault. */
 const char *answer_take(struct answer *answer, struct line *line,
                         const struct answer_wishes *wishes);
 

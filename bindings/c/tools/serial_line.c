@@ -85,7 +85,7 @@ static int64_t later(int64_t one, int64_t other)
     return one > other ? one : other;
 }
 
-static const char *text_of(enum port_result result)
+static const char *text_of(enum gt_port_result result)
 {
     switch (result) {
     case PORT_IS_WELL: return NULL;
@@ -97,18 +97,18 @@ static const char *text_of(enum port_result result)
 }
 
 /* Reads a character of the port, and checks whether it came too early. */
-static enum port_result read_port(struct line *line, uint8_t *raw, bool *has_other_parity,
+static enum gt_port_result read_port(struct line *line, uint8_t *raw, bool *has_other_parity,
                                   int64_t then)
 {
-    const enum port_result result = port_read(line->port, raw, has_other_parity, then);
-    line->is_early |= result == PORT_IS_WELL && port_now() < line->quiet_until;
+    const enum gt_port_result result = gt_port_receive(line->port, raw, has_other_parity, then);
+    line->is_early |= result == PORT_IS_WELL && gt_port_now() < line->quiet_until;
     return result;
 }
 
 /* Reads the characters that are there, and waits until then for the first `wanted` ones. */
-static enum port_result come_in(struct line *line, size_t wanted, int64_t then)
+static enum gt_port_result come_in(struct line *line, size_t wanted, int64_t then)
 {
-    enum port_result result = PORT_IS_WELL;
+    enum gt_port_result result = PORT_IS_WELL;
     while (line->come_count < LINE_RUN && result == PORT_IS_WELL) {
         struct line_character *next = &line->come[line->come_count];
         result = read_port(line, &next->raw, &next->has_other_parity,
@@ -139,7 +139,7 @@ static void note_first(struct line *line)
 
 const char *line_refuse_early(struct line *line, int64_t wait)
 {
-    const enum port_result result = come_in(line, 1, port_now() + wait);
+    const enum gt_port_result result = come_in(line, 1, gt_port_now() + wait);
     if (result != PORT_IS_WELL)
         return result == PORT_IS_SILENT ? NULL : text_of(result);
     note_first(line);
@@ -156,7 +156,7 @@ const char *line_drop(struct line *line, int64_t first, int64_t quiet)
     int64_t wait = first;
     size_t i;
     for (i = 0; i < LINE_DROPS; i++) {
-        const enum port_result result = come_in(line, 1, port_now() + wait);
+        const enum gt_port_result result = come_in(line, 1, gt_port_now() + wait);
         for (; line->come_count > 0; remove_first(line, 1))
             note_first(line);
         if (result == PORT_IS_GONE)
@@ -234,19 +234,19 @@ static const char *look_before(struct line *line)
 static const char *hand_out(struct line *line, const uint8_t *raw, size_t n)
 {
     const int64_t length = line_etu(line, LINE_CHARACTER_ETU * n);
-    enum port_result result;
+    enum gt_port_result result;
     const char *fault;
-    port_sleep_until(line->free_from);
+    gt_port_sleep_until(line->free_from);
     if (line->own == LINE_TERMINAL) {
         fault = look_before(line);
         if (fault != NULL)
             return fault;
         if (line->echo == LINE_HAS_NO_ECHO && !line->port->is_pseudo)
-            line->quiet_until = port_now() + length - length / 32;
+            line->quiet_until = gt_port_now() + length - length / 32;
     }
     line->heard_before = line->heard_count;
-    result = port_write(line->port, raw, n, port_now() + length + line->slack);
-    line->sent_until = port_now() + length;
+    result = gt_port_send(line->port, raw, n, gt_port_now() + length + line->slack);
+    line->sent_until = gt_port_now() + length;
     line->free_from = line->sent_until + line->guard;
     return result == PORT_IS_SILENT ? "the tty takes no more characters" : text_of(result);
 }
@@ -256,7 +256,7 @@ static const char *take_echo(struct line *line, uint8_t raw, int64_t then)
 {
     uint8_t found;
     bool has_other_parity;
-    const enum port_result result = read_port(line, &found, &has_other_parity, then + line->slack);
+    const enum gt_port_result result = read_port(line, &found, &has_other_parity, then + line->slack);
     if (result == PORT_IS_SILENT)
         return "there is no echo";
     if (result != PORT_IS_WELL)
@@ -264,7 +264,7 @@ static const char *take_echo(struct line *line, uint8_t raw, int64_t then)
     if (found != raw || has_other_parity)
         return "the echo differs from what was sent";
     line->free_from =
-        later(line->free_from, port_now() + line_etu(line, LINE_REST_ETU) + line->guard);
+        later(line->free_from, gt_port_now() + line_etu(line, LINE_REST_ETU) + line->guard);
     return NULL;
 }
 
@@ -307,7 +307,7 @@ const char *line_send_all(struct line *line, const uint8_t *bytes, size_t n)
 /* How long the line waits for a character of the other end. */
 static int64_t waits_until(const struct line *line, int64_t wait)
 {
-    return later(port_now(), line->sent_until) + wait;
+    return later(gt_port_now(), line->sent_until) + wait;
 }
 
 /* The other end has sent a character: the next one of this end is sent no earlier than this. A
@@ -315,14 +315,14 @@ static int64_t waits_until(const struct line *line, int64_t wait)
  * pseudo terminal it takes no time. */
 static void note_turn(struct line *line)
 {
-    const int64_t turn = port_now() + line_etu(line, LINE_TURN_ETU);
+    const int64_t turn = gt_port_now() + line_etu(line, LINE_TURN_ETU);
     line->free_from = line->own == LINE_CARD ? turn : later(line->free_from, turn);
 }
 
 const char *line_receive_first(struct line *line, uint8_t *byte, bool *has_other_parity,
                                int64_t wait)
 {
-    enum port_result result = PORT_IS_WELL;
+    enum gt_port_result result = PORT_IS_WELL;
     if (line->come_count == 0)
         result = read_port(line, byte, has_other_parity, waits_until(line, wait));
     else {
@@ -337,7 +337,7 @@ const char *line_receive_first(struct line *line, uint8_t *byte, bool *has_other
 /* An echo is no character of this end: it is sent at once. */
 static const char *give_echo(const struct line *line, uint8_t raw)
 {
-    return text_of(port_write(line->port, &raw, 1, port_now() + line->slack));
+    return text_of(gt_port_send(line->port, &raw, 1, gt_port_now() + line->slack));
 }
 
 /* Whether a character fits the convention. */
@@ -369,12 +369,12 @@ const char *line_refuse_echo(struct line *line, size_t n, int64_t wait)
     if (line->echo != LINE_HAS_NO_ECHO || n == 0)
         return NULL;
     for (same = 0; same < n; same++) {
-        const enum port_result result = come_in(line, same + 1, then);
+        const enum gt_port_result result = come_in(line, same + 1, then);
         if (result != PORT_IS_WELL)
             return same == 0 ? text_of(result) : NULL;
         if (by_convention(line, line->come[same].raw) != line->sent[same])
             return NULL;
-        then = port_now() + LINE_ECHO_LATE;
+        then = gt_port_now() + LINE_ECHO_LATE;
     }
     return LINE_ECHOES;
 }
@@ -382,7 +382,7 @@ const char *line_refuse_echo(struct line *line, size_t n, int64_t wait)
 const char *line_refuse_more(struct line *line, int64_t wait)
 {
     const int64_t until = line->port->until;
-    enum port_result result;
+    enum gt_port_result result;
     if (line->echo != LINE_HAS_NO_ECHO || !agrees(line, line->sent, line->sent_count))
         return NULL;
     /* the card has answered in time */
@@ -397,7 +397,7 @@ const char *line_refuse_more(struct line *line, int64_t wait)
 
 const char *line_look(struct line *line, uint8_t bytes[LINE_RUN], size_t *n, int64_t wait)
 {
-    const enum port_result result = come_in(line, 1, waits_until(line, wait));
+    const enum gt_port_result result = come_in(line, 1, waits_until(line, wait));
     *n = 0;
     if (result != PORT_IS_WELL)
         return text_of(result);
@@ -423,8 +423,8 @@ void line_take(struct line *line, const uint8_t *bytes, size_t n)
 
 const char *line_set(struct line *line, unsigned long baud)
 {
-    port_sleep_until(line->sent_until);
+    gt_port_sleep_until(line->sent_until);
     line->baud = baud;
     line->has_parity_of_direct = false;
-    return port_set(line->port, baud, line->is_inverse);
+    return gt_port_set(line->port, baud, line->is_inverse);
 }

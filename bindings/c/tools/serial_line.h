@@ -3,7 +3,7 @@
 #ifndef SERIAL_LINE_H
 #define SERIAL_LINE_H
 
-#include "serial_port.h"
+#include "gt_port.h"
 
 #include <galliumtoad.h>
 
@@ -46,7 +46,7 @@ struct line_character {
 };
 
 struct line {
-    struct port *port;
+    struct gt_port *port;
     enum line_end own;
     enum line_echo echo;
     bool is_of_blocks;          /* T=1: what comes before this end sends is dropped */

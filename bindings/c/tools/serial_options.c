@@ -5,7 +5,7 @@
 const char *const SERIAL_SIGNALS[] = { "cts", "dsr", "dcd", "none", "rts", "dtr" };
 const char *const SERIAL_STATES[] = { "off", "on" };
 
-struct line serial_options_line(const struct serial_options *options, struct port *port,
+struct line serial_options_line(const struct serial_options *options, struct gt_port *port,
                                 enum line_end own)
 {
     struct line line;

@@ -8,7 +8,7 @@
 struct serial_options {
     bool is_traced;         /* -v */
     bool has_echo;          /* not --no-echo */
-    int reset;              /* --reset: an enum port_signal */
+    int reset;              /* --reset: an enum gt_port_signal */
     int is_held_by_on;      /* not --held-by off */
     unsigned long baud;     /* --baud */
     unsigned long slack;    /* --slack, in milliseconds */
@@ -34,7 +34,7 @@ extern const char *const SERIAL_SIGNALS[], *const SERIAL_STATES[];
     { NULL, OPTION_ON, NULL, 0, 0, NO_NAMES }
 
 /* The line of one end, as the options have it, over this port. */
-struct line serial_options_line(const struct serial_options *options, struct port *port,
+struct line serial_options_line(const struct serial_options *options, struct gt_port *port,
                                 enum line_end own);
 
 #endif

@@ -59,9 +59,11 @@ static bool is_sound(const struct t1_block *block)
 
 /* Words why a command failed. What is known of its operation is the later one of what was known
  * before the command, and what is known of the command. */
-static const char *tell(const char *cause, int32_t known, int32_t outcome)
+static const char *tell(const struct t1_end *t1, const char *cause, int32_t known,
+                        int32_t outcome)
 {
-    return text_told("%s: %s", cause, OUTCOMES[outcome > known ? outcome : known]);
+    return text_put(&t1->line->port->told, "%s: %s", cause,
+                    OUTCOMES[outcome > known ? outcome : known]);
 }
 
 static const char *give_up(struct t1_end *t1, int32_t known)
@@ -69,7 +71,7 @@ static const char *give_up(struct t1_end *t1, int32_t known)
     int32_t cause = GT_OK, outcome = GT_UNKNOWN;
     if (gt_t1_fault(&t1->end, &cause, &outcome) != GT_OK)
         return gt_text(GT_FAILED);
-    return tell(gt_text(cause), known, outcome);
+    return tell(t1, gt_text(cause), known, outcome);
 }
 
 /* Receives the card's block after a sent one. R-blocks of both ends may be the same, after a lost
@@ -122,7 +124,7 @@ const char *t1_carry(struct t1_end *t1, const uint8_t *apdu, size_t n, int32_t k
     if (fault == NULL && code == GT_FAILED)
         return give_up(t1, known);
     if ((fault == LINE_IS_RESET || fault == LINE_ECHOES) && bytes[1] != IFS_REQUEST)
-        return tell(fault, known, GT_UNKNOWN);
+        return tell(t1, fault, known, GT_UNKNOWN);
     if (fault == NULL && code == GT_DONE)
         code = gt_t1_response(&t1->end, response, GT_ANSWER_LIMIT, len);
     return fault == NULL && code < 0 ? gt_text(code) : fault;

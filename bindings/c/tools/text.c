@@ -5,9 +5,6 @@
 #include <stdlib.h>
 #include <string.h>
 
-/* the last text of `text_told` */
-static char told[400];
-
 size_t text_hex_size(const char *digits)
 {
     return text_hex_fault(digits) == NULL ? strlen(digits) / 2 : 0;
@@ -86,28 +83,31 @@ const char *text_print_bytes(FILE *out, const char *mark, const uint8_t *bytes, 
     return fflush(out) == 0 && !ferror(out) ? NULL : "write fault";
 }
 
-/* A value may be the last text, so the next one is made in another place. */
-const char *text_told(const char *format, ...)
+/* A value may be the text of the place, so the next one is made in another. */
+const char *text_put(struct text *place, const char *format, ...)
 {
-    char text[sizeof told];
+    struct text text;
     va_list values;
     va_start(values, format);
-    vsnprintf(text, sizeof text, format, values);
+    vsnprintf(text.bytes, sizeof text.bytes, format, values);
     va_end(values);
-    return strcpy(told, text);
+    *place = text;
+    return place->bytes;
 }
 
-const char *text_quoted(const char *before, const char *word, const char *behind)
+const char *text_put_quoted(struct text *place, const char *before, const char *word,
+                            const char *behind)
 {
-    text_told("%s'%.60s%s'%s", before, word, strlen(word) > 60 ? ".." : "", behind);
-    text_calm(told);
-    return told;
+    text_put(place, "%s'%.60s%s'%s", before, word, strlen(word) > 60 ? ".." : "", behind);
+    text_calm(place->bytes);
+    return place->bytes;
 }
 
-const char *text_fault(const char *what, const char *word, const char *why)
+const char *text_put_fault(struct text *place, const char *what, const char *word,
+                           const char *why)
 {
     char before[40], behind[200];
     snprintf(before, sizeof before, "%s: ", what);
     snprintf(behind, sizeof behind, ": %s", why);
-    return text_quoted(before, word, behind);
+    return text_put_quoted(place, before, word, behind);
 }

@@ -28,14 +28,23 @@ void text_print(FILE *out, const char *text);
  * words that say why that failed. */
 const char *text_print_bytes(FILE *out, const char *mark, const uint8_t *bytes, size_t n);
 
-/* The text of a format as of printf, up to 399 bytes. It stays until the next call of this function
- * or one of the next two. The last text may be one of the values. */
-__attribute__((format(printf, 1, 2))) const char *text_told(const char *format, ...);
+/* A text of up to 399 bytes, and its NUL. */
+struct text {
+    char bytes[400];
+};
+
+/* Each of these writes a text to its place, and returns that. A value may be the text there.
+ *
+ * The text of a format as of printf. */
+__attribute__((format(printf, 2, 3))) const char *text_put(struct text *place,
+                                                           const char *format, ...);
 
 /* `BEFORE'WORD'BEHIND`, with the first 60 bytes of the word, as `text_calm` leaves it. */
-const char *text_quoted(const char *before, const char *word, const char *behind);
+const char *text_put_quoted(struct text *place, const char *before, const char *word,
+                            const char *behind);
 
 /* The same of a fault: `WHAT: 'WORD': WHY`. */
-const char *text_fault(const char *what, const char *word, const char *why);
+const char *text_put_fault(struct text *place, const char *what, const char *word,
+                           const char *why);
 
 #endif

@@ -1,5 +1,5 @@
 /* A stand-in for the tty of a serial port, over a pseudo terminal. By the linker's --wrap it gets
- * the calls of serial_port.c that set the port and its lines. Without STANDIN_TTY it does nothing.
+ * the calls of gt_port.c that set the port and its lines. Without STANDIN_TTY it does nothing.
  * The environment sets it up:
  *
  * - STANDIN_TTY: the file that gets a line for each of these calls.

@@ -20,9 +20,11 @@
 /* how long the bytes after the first of a mark may take, which come with it */
 #define MARK_LASTS (20 * MILLISECOND)
 
-/* how long the line is held for a reset, or a pseudo terminal closed: 400 cycles are required, and
- * slow readers take longer to pass them on */
+/* how long the line is held for a reset: 400 cycles are required, and slow readers take longer to
+ * pass them on. And how long a pseudo terminal is closed: the program at its far end has to see
+ * that */
 #define IS_HELD_FOR (50 * MILLISECOND)
+#define IS_CLOSED_FOR (200 * MILLISECOND)
 
 /* the settings for characters on the line */
 static const tcflag_t FORM = CSIZE | CSTOPB | PARENB | PARODD;
@@ -250,7 +252,7 @@ static const char *reset_pseudo(struct gt_port *port)
     const char *fault = NULL;
     if (!port->is_fresh) {
         gt_port_close(port);
-        gt_port_sleep_until(gt_port_now() + IS_HELD_FOR);
+        gt_port_sleep_until(gt_port_now() + IS_CLOSED_FOR);
         fault = open_and_set(port);
     }
     port->is_fresh = port->is_cut = false;

@@ -71,7 +71,7 @@ const char *gt_port_set(struct gt_port *port, unsigned long baud, bool is_odd);
 /* Whether a line is on. */
 const char *gt_port_look(struct gt_port *port, enum gt_port_signal signal, bool *is_on);
 
-/* Whether the tty has gone: the adapter is unplugged, or the far end of a pseudo terminal is
+/* Whether the tty is gone: the adapter is unplugged, or the far end of a pseudo terminal is
  * closed. */
 bool gt_port_is_gone(const struct gt_port *port);
 

@@ -4,6 +4,7 @@
 #include "serial_answer.h"
 #include "serial_options.h"
 #include "serial_signals.h"
+#include "serial_t0.h"
 #include "serial_t1.h"
 #include "steps.h"
 
@@ -16,7 +17,7 @@ static const char HELP[] =
 
 static bool asks_pps;
 static unsigned long protocol = 2;      /* --protocol; 2 without it */
-static unsigned long patience = 600;    /* --patience, in seconds */
+static unsigned long patience = SERIAL_PATIENCE;    /* --patience, in seconds */
 static const char *file;                /* -f, or NULL */
 static struct serial_options options = SERIAL_OPTIONS(PORT_RTS);
 
@@ -29,113 +30,17 @@ static const struct option OPTIONS[] = {
     { "--verify", OPTION_ON, &steps.verifies, 0, 0, NO_NAMES },
     { "--protocol", OPTION_NUMBER, &protocol, 0, 1, NO_NAMES },
     { "--pps", OPTION_ON, &asks_pps, 0, 0, NO_NAMES },
-    { "--quiet", OPTION_NUMBER, &options.quiet, LINE_LATE, 1000, NO_NAMES },
-    { "--patience", OPTION_NUMBER, &patience, 1, 86400, NO_NAMES },
+    { "--quiet", OPTION_NUMBER, &options.quiet, LINE_LATE, SERIAL_QUIET_MOST, NO_NAMES },
+    { "--patience", OPTION_NUMBER, &patience, 1, SERIAL_PATIENCE_MOST, NO_NAMES },
     SERIAL_ROWS(options, PORT_NONE, PORT_DTR),
 };
-
-static const char CUT_SHORT[] = "the card ended the command before it took the data";
 
 /* A card behind a line. */
 struct session {
     struct line *line;
-    int64_t waiting_time;
-    int64_t patience;           /* the longest that a command may take */
-    struct t1_end t1;           /* its end at T=1, if the protocol is T=1 */
+    struct t0_end t0;           /* the terminal's end, if the protocol is T=0 */
+    struct t1_end t1;           /* and if it is T=1 */
 };
-
-/* A command begins, and must end in time. */
-static void begin_command(const struct session *session)
-{
-    session->line->port->until = gt_port_now() + session->patience;
-}
-
-/* Words why the terminal does not take the last byte heard. A card that resets itself sends TS
- * first. */
-static const char *refuse(struct line *line, int32_t code)
-{
-    if (line_hears_answer(line))
-        return LINE_IS_RESET;
-    if (line_hears_echo(line))
-        return LINE_ECHOES;
-    if (code == GT_BAD_PROCEDURE && line->heard[line->heard_count - 1] == line->answer[0])
-        return LINE_IS_RESET;
-    return code == GT_NOT_LISTENING || code == GT_AFTER_END ? "unexpected byte" : gt_text(code);
-}
-
-/* Hands the terminal the received characters of the card, after a header of `size` bytes or data.
- * The terminal must take all of them: the card sends no more than it is asked for. */
-static const char *take(struct session *session, gt_terminal *terminal, size_t size)
-{
-    struct line *line = session->line;
-    uint8_t bytes[LINE_RUN];
-    size_t n, taken = 0;
-    int32_t code;
-    const char *fault = line_refuse_echo(line, size, session->waiting_time);
-    if (fault == NULL)
-        fault = line_look(line, bytes, &n, session->waiting_time);
-    if (fault != NULL)
-        return fault == LINE_IS_SILENT ? "the card is silent" : fault;
-    code = gt_terminal_receive_bytes(terminal, bytes, n, &taken);
-    if (code != GT_OK)
-        taken++;
-    line_take(line, bytes, taken);
-    return code == GT_OK ? NULL : refuse(line, code);
-}
-
-/* Whether SW1 is that of a status other than a refusal: 61XX, 62XX, 63XX or 9XXX. */
-static bool is_no_refusal(uint8_t sw1)
-{
-    return (sw1 >= 0x61 && sw1 <= 0x63) || sw1 >= 0x90;
-}
-
-/* The last two bytes of the card, after a TPDU. */
-static const uint8_t *status_of(const struct line *line)
-{
-    return line->heard + line->heard_count - 2;
-}
-
-/* Looks at what the card has sent, once the terminal sends again or has ended; `has_status` after a
- * TPDU. An echo, or an answer to reset, may look like the card's own. */
-static const char *end_turn(const struct session *session, bool has_status, bool lacks_data)
-{
-    struct line *line = session->line;
-    const char *fault = line_refuse_more(line, session->waiting_time);
-    if (fault != NULL || !has_status)
-        return fault;
-    if (line_ends_as_answer(line))
-        return LINE_IS_RESET;
-    return lacks_data && is_no_refusal(status_of(line)[0]) ? CUT_SHORT : NULL;
-}
-
-/* Passes the characters of the operation in progress, until it ends. It sends no other header once
- * the card has ended a TPDU before it took the data, with a status that is no refusal. */
-static const char *pass_all(struct session *session, gt_terminal *terminal)
-{
-    const char *fault = NULL;
-    uint8_t bytes[LINE_RUN];
-    bool lacks_data = false;
-    while (fault == NULL) {
-        size_t n = 0, most;
-        const bool is_header = gt_terminal_tpdu(terminal, bytes, &n, &most) == GT_OK;
-        const int32_t code = gt_terminal_send_bytes(terminal, bytes, sizeof bytes, &n);
-        if (n > 0 || code == GT_DONE)
-            fault = end_turn(session, is_header || code == GT_DONE, lacks_data);
-        if (fault == NULL && is_header) {
-            begin_command(session);
-            line_forget(session->line);
-            fault = line_await_quiet(session->line);
-        }
-        if (fault == NULL)
-            fault = code < 0 ? gt_text(code) : line_send_all(session->line, bytes, n);
-        if (code == GT_DONE)
-            return fault;
-        lacks_data = gt_terminal_data_sent(terminal) == GT_NOT_ALL_SENT;
-        if (code == GT_OK && fault == NULL)
-            fault = take(session, terminal, is_header ? n : 0);
-    }
-    return fault;
-}
 
 /* Passes the commands of the operation in progress at T=1, until it ends. */
 static const char *pass_commands(struct session *session, gt_terminal *terminal)
@@ -145,8 +50,8 @@ static const char *pass_commands(struct session *session, gt_terminal *terminal)
     int32_t code, known = GT_NOT_CARRIED_OUT;
     const char *fault = NULL;
     while ((code = gt_terminal_apdu(terminal, apdu, &n, &most)) == GT_OK && fault == NULL) {
-        begin_command(session);
-        fault = t1_carry(&session->t1, apdu, n, known, response, &len);
+        line_begin_command(session->line);
+        fault = t1_carry(&session->t1, apdu, n, known, response, sizeof response, &len);
         if (fault == NULL && (code = gt_terminal_responded(terminal, response, len)) != GT_OK)
             fault = gt_text(code);
         if (fault == NULL && known != GT_IN_PART)
@@ -164,9 +69,10 @@ static const char *pass(void *line, gt_terminal *terminal, const struct operatio
     (void)operation;
     line_forget(session->line);
     fault = session->line->is_of_blocks ? pass_commands(session, terminal)
-                                        : pass_all(session, terminal);
+                                        : t0_pass(&session->t0, terminal, false);
     line_note_text(session->line, NULL);
-    if (fault == CUT_SHORT && text_print_bytes(stdout, "= ", status_of(session->line), 2) != NULL)
+    if (fault == T0_CUT_SHORT
+        && text_print_bytes(stdout, "= ", t0_status(session->line), 2) != NULL)
         return "write fault";
     return fault;
 }
@@ -253,7 +159,7 @@ static const char *go_on(struct session *session, struct answer *answer)
 {
     const int wanted = protocol <= 1 ? (int)protocol : ANSWER_FIRST;
     const char *fault = answer_go_on(answer, answer_protocol(&answer->says, wanted), asks_pps,
-                                     &session->waiting_time);
+                                     &session->t0.waiting_time);
     return fault == NULL && session->line->is_of_blocks ? begin_t1(session, answer) : fault;
 }
 
@@ -261,18 +167,19 @@ static const char *go_on(struct session *session, struct answer *answer)
 static int run_over(struct gt_port *port, const struct script *script)
 {
     struct line line = serial_options_line(&options, port, LINE_TERMINAL);
-    struct session session = { NULL, 0, 0, { NULL, { 0, 0, 0 }, GT_INIT } };
+    struct session session = { NULL, { NULL, 0 }, { NULL, { 0, 0, 0 }, GT_INIT } };
     struct answer answer;
     struct answer_wishes wishes;
     const char *fault;
     int result;
     steps.line = &session;
-    session.line = &line;
-    session.patience = (int64_t)patience * 1000000;
+    session.line = session.t0.line = &line;
+    line.patience = (int64_t)patience * 1000000;
     wishes.reset = (enum gt_port_signal)options.reset;
     wishes.is_held_by_on = options.is_held_by_on;
     wishes.opens_again = false;
-    wishes.patience = session.patience;
+    wishes.clock = 0;
+    wishes.patience = line.patience;
     fault = answer_take(&answer, &line, &wishes);
     if (fault == NULL && script->count == 0)
         fault = print_meaning(&answer);

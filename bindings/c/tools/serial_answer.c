@@ -119,7 +119,8 @@ const char *answer_take(struct answer *answer, struct line *line,
     int64_t wait = wishes->patience;
     memset(answer, 0, sizeof *answer);
     answer->line = line;
-    answer->clock = line->baud * ANSWER_CYCLES;
+    answer->baud = line->baud;
+    answer->clock = wishes->clock > 0 ? wishes->clock : line->baud * ANSWER_CYCLES;
     if (line->port->is_pseudo || wishes->reset != PORT_NONE)
         wait = cycles(answer, BEGINS_BEFORE) + line->slack;
     fault = reset(answer, wishes);
@@ -150,7 +151,7 @@ static const char *set_rate(struct answer *answer, bool is_of_card)
     const unsigned fi = has_rate(says) ? says->fi : ANSWER_CYCLES;
     const unsigned di = has_rate(says) ? says->di : 1;
     const char *fault =
-        line_set(line, is_of_card ? answer_rate(answer) : answer->clock / ANSWER_CYCLES);
+        line_set(line, is_of_card ? answer_rate(answer) : answer->baud);
     line->guard = guard > LINE_CHARACTER_ETU ? line_etu(line, guard - LINE_CHARACTER_ETU) : 0;
     if (says->guard_indicated > 0)
         line->guard += cycles(answer, (uint64_t)says->guard_indicated * fi / di + 1);

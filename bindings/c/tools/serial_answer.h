@@ -21,12 +21,14 @@ struct answer_wishes {
     bool is_held_by_on;         /* it holds the card in reset while it is on */
     bool opens_again;           /* a pseudo terminal is opened again for it, unless it is fresh */
     int64_t patience;           /* how long somebody may take to reset the card by hand */
+    unsigned long clock;        /* the card's cycles in a second; 0: 372 times the line's rate */
 };
 
 /* An answer to reset, and the line it came over. */
 struct answer {
     struct line *line;
     unsigned long clock;        /* cycles in a second */
+    unsigned long baud;         /* the rate of the reset */
     uint8_t bytes[GT_ATR_LIMIT];
     size_t n;
     gt_atr says;

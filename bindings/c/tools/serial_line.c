@@ -28,6 +28,11 @@ uint8_t line_turned(uint8_t byte)
     return (uint8_t)(turned ^ 0xFF);
 }
 
+void line_begin_command(struct line *line)
+{
+    line->port->until = gt_port_now() + line->patience;
+}
+
 /* Turns a character of the line into a byte by the line's convention, and back. */
 static uint8_t by_convention(const struct line *line, uint8_t byte)
 {
@@ -219,6 +224,24 @@ void line_forget(struct line *line)
     line->sent_count = line->heard_count = line->heard_before = 0;
 }
 
+/* A compiler may leave out writes that nothing reads. It must read which function this is each
+ * time, and so call it. */
+static void *(*const volatile wipe)(void *, int, size_t) = memset;
+
+void line_wipe_copy(void *bytes, size_t n)
+{
+    wipe(bytes, 0, n);
+}
+
+void line_wipe(struct line *line)
+{
+    line_forget(line);
+    wipe(line->sent, 0, sizeof line->sent);
+    wipe(line->heard, 0, sizeof line->heard);
+    wipe(line->come + line->come_count, 0,
+         (LINE_RUN - line->come_count) * sizeof *line->come);
+}
+
 /* Looks at what the card has sent before the terminal sends: at T=1 it is dropped, unless the card
  * has reset itself. */
 static const char *look_before(struct line *line)
@@ -256,7 +279,8 @@ static const char *take_echo(struct line *line, uint8_t raw, int64_t then)
 {
     uint8_t found;
     bool has_other_parity;
-    const enum gt_port_result result = read_port(line, &found, &has_other_parity, then + line->slack);
+    const enum gt_port_result result =
+        read_port(line, &found, &has_other_parity, then + line->slack);
     if (result == PORT_IS_SILENT)
         return "there is no echo";
     if (result != PORT_IS_WELL)
@@ -282,6 +306,7 @@ static const char *send_run(struct line *line, const uint8_t *bytes, size_t n)
     for (i = 0; i < n && fault == NULL && line->echo == LINE_TAKES_ECHO; i++)
         fault = take_echo(line, raw[i],
                           line->sent_until - line_etu(line, LINE_CHARACTER_ETU * (n - 1 - i)));
+    line_wipe_copy(raw, n);
     return fault;
 }
 

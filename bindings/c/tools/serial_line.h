@@ -56,6 +56,7 @@ struct line {
     int64_t guard;              /* more guard time than each character has */
     int64_t slack;              /* how much longer a wait may last than the line's rules say */
     int64_t late;               /* the latest that a byte comes from the tty's driver */
+    int64_t patience;           /* the longest that a command may take */
     int64_t sent_until;         /* when the last character handed out was sent */
     int64_t free_from;          /* the earliest time to send the next one */
     int64_t quiet_until;        /* the card must be silent until then .. */
@@ -87,6 +88,9 @@ extern const char LINE_IS_RESET[];
 
 /* How long this many etu are at the line's rate. */
 int64_t line_etu(const struct line *line, unsigned long count);
+
+/* A command begins, and must end in time. */
+void line_begin_command(struct line *line);
 
 /* Sends a character of this end, in the line's convention, and takes its echo. A byte of the card
  * that was received before the terminal sends is a fault. */
@@ -133,8 +137,11 @@ bool line_ends_as_answer(const struct line *line);
  * awaited. */
 bool line_hears_answer(struct line *line);
 
-/* Forgets what was sent and heard. */
+/* Forgets what was sent and heard. The second also wipes it, which may be secret. The third wipes a
+ * copy elsewhere, before its place is used for something else. */
 void line_forget(struct line *line);
+void line_wipe(struct line *line);
+void line_wipe_copy(void *bytes, size_t n);
 
 /* Drops what comes within `first`, and then all until nothing comes for `quiet`. NULL: nothing was
  * received. LINE_IS_BROKEN: something was, and was dropped. An end that does not stop sending is a

@@ -89,17 +89,12 @@ static const char *receive(struct t1_end *t1, const uint8_t *sent, size_t n, int
     return NULL;
 }
 
-/* Sends the end's block, and takes the card's. */
-static const char *pass_block(struct t1_end *t1, const uint8_t *bytes, size_t n, uint8_t waits)
+/* Hands the card's block to the end, or what became of it. */
+static const char *hand_on(struct t1_end *t1, const char *fault, struct t1_block *block)
 {
-    struct t1_block block = { { 0 }, 0 };
     int32_t code = GT_OK;
-    const char *fault = line_send_all(t1->line, bytes, n);
-    if (fault != NULL)
-        return fault;
-    fault = receive(t1, bytes, n, t1->times.bwt * waits, &block);
     if (fault == NULL)
-        code = gt_t1_receive_bytes(&t1->end, block.bytes, block.n, &block.n);
+        code = gt_t1_receive_bytes(&t1->end, block->bytes, block->n, &block->n);
     else if (fault == LINE_IS_BROKEN || fault == LINE_IS_SILENT)
         code = gt_t1_missed(&t1->end);
     else if (fault == LINE_HAS_WRONG_PARITY)
@@ -109,11 +104,25 @@ static const char *pass_block(struct t1_end *t1, const uint8_t *bytes, size_t n,
     return code < 0 ? gt_text(code) : NULL;
 }
 
+/* Sends the end's block, and takes the card's. */
+static const char *pass_block(struct t1_end *t1, const uint8_t *bytes, size_t n, uint8_t waits)
+{
+    struct t1_block block = { { 0 }, 0 };
+    const char *fault = line_send_all(t1->line, bytes, n);
+    if (fault != NULL)
+        return fault;
+    fault = receive(t1, bytes, n, t1->times.bwt * waits, &block);
+    fault = hand_on(t1, fault, &block);
+    line_wipe_copy(&block, sizeof block);
+    return fault;
+}
+
 const char *t1_carry(struct t1_end *t1, const uint8_t *apdu, size_t n, int32_t known,
-                     uint8_t response[GT_ANSWER_LIMIT], size_t *len)
+                     uint8_t *response, size_t room, size_t *len)
 {
     uint8_t bytes[GT_BLOCK_LIMIT] = { 0 }, waits = 1;
     const char *fault = NULL;
+    bool is_ifs;
     size_t size;
     int32_t code = gt_t1_begin(&t1->end, apdu, n);
     while (code == GT_OK && fault == NULL) {
@@ -121,11 +130,13 @@ const char *t1_carry(struct t1_end *t1, const uint8_t *apdu, size_t n, int32_t k
         if (code == GT_OK)
             fault = pass_block(t1, bytes, size, waits);
     }
+    is_ifs = bytes[1] == IFS_REQUEST;
+    line_wipe_copy(bytes, sizeof bytes);
     if (fault == NULL && code == GT_FAILED)
         return give_up(t1, known);
-    if ((fault == LINE_IS_RESET || fault == LINE_ECHOES) && bytes[1] != IFS_REQUEST)
+    if ((fault == LINE_IS_RESET || fault == LINE_ECHOES) && !is_ifs)
         return tell(t1, fault, known, GT_UNKNOWN);
     if (fault == NULL && code == GT_DONE)
-        code = gt_t1_response(&t1->end, response, GT_ANSWER_LIMIT, len);
+        code = gt_t1_response(&t1->end, response, room, len);
     return fault == NULL && code < 0 ? gt_text(code) : fault;
 }

@@ -36,6 +36,6 @@ const char *t1_receive(struct line *line, const struct t1_times *times, int64_t 
  * before that: GT_NOT_CARRIED_OUT, GT_UNKNOWN or GT_IN_PART. Returns NULL, or why it failed, and
  * what is known of the operation then; the text stays until the next call. */
 const char *t1_carry(struct t1_end *t1, const uint8_t *apdu, size_t n, int32_t known,
-                     uint8_t response[GT_ANSWER_LIMIT], size_t *len);
+                     uint8_t *response, size_t room, size_t *len);
 
 #endif

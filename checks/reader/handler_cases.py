@@ -214,7 +214,8 @@ def copies(needle):
         rows = [it.split() for it in maps]
     base = next(int(it[0].split("-")[0], 16) for it in rows if it[-1] == str(INSTALLED.resolve()))
     regions += [(name, base + at, size) for name, _, at, size in objects() if name == "places"]
-    start, end = next((int(at, 16) for at in it[0].split("-")) for it in rows if it[-1] == "[stack]")
+    stack = next(it[0] for it in rows if it[-1] == "[stack]")
+    start, end = (int(at, 16) for at in stack.split("-"))
     regions.append(("the stack", start, end - start))
     with open("/proc/self/mem", "rb", buffering=0) as memory:
         for name, at, size in regions:

@@ -3,12 +3,10 @@
 
 #include <string.h>
 
-/* how long the slot is empty after a fault, in microseconds: pcscd looks each 0.4 s, and must see
- * that */
+/* How long the slot is empty after a fault, or after it was seen empty, in microseconds. Besides
+ * looks for its clients pcscd looks each 0.4 s, and must see that: otherwise it never powers up the
+ * next card. */
 #define IS_LOST_FOR 1000000
-
-/* the bytes of a command before its data, and the place of Lc among them */
-enum { HEAD = 5, LC = 4 };
 
 const char SERIAL_READER_ROOM[] = "the answer does not fit the program's room";
 
@@ -80,7 +78,7 @@ enum serial_reader_state serial_reader_look(struct serial_reader *reader, const 
         *fault = why;
     }
     if (why != NULL || !is_present)
-        serial_reader_power_down(reader);
+        lose(reader);
     if (why != NULL)
         return SERIAL_READER_GONE;
     return is_present ? SERIAL_READER_HAS_CARD : SERIAL_READER_EMPTY;
@@ -169,17 +167,16 @@ static const char *copy_answer(gt_terminal *terminal, const uint8_t *status, uin
     return NULL;
 }
 
-/* Carries a TPDU. `is_sent` says whether a byte may have left. */
+/* Carries a TPDU. `is_sent` says whether a byte may have left. Programs send Le after data, which no
+ * TPDU has: the terminal would only use it for GET RESPONSE. */
 static const char *carry_tpdu(struct serial_reader *reader, const uint8_t *tpdu, size_t n,
                               uint8_t *answer, size_t room, size_t *size, bool *is_sent)
 {
     gt_terminal terminal = GT_INIT;
     const char *fault = NULL;
-    /* no TPDU of T=0 has the Le that programs send after data */
-    const bool has_le = n > HEAD && tpdu[LC] > 0 && n == (size_t)HEAD + tpdu[LC] + 1;
     int32_t code = gt_terminal_new_within(&terminal, GT_ANSWER_LIMIT);
     if (code == GT_OK)
-        code = gt_terminal_send(&terminal, tpdu, has_le ? n - 1 : n);
+        code = gt_terminal_send(&terminal, tpdu, n);
     *is_sent = code == GT_OK;
     fault = code == GT_OK ? t0_pass(&reader->t0, &terminal, true) : gt_text(code);
     if (fault == NULL)

@@ -42,8 +42,9 @@ const char *serial_reader_init(struct serial_reader *reader, const char *device)
  * any more loses its power. */
 enum serial_reader_state serial_reader_look(struct serial_reader *reader, const char **fault);
 
-/* Whether a command has just failed. Its card has lost its state, so the reader shows an empty slot
- * for a second: then each program sees that, and the next one begins with a reset. */
+/* Whether a command has just failed, or the slot was just empty. The card has lost its state, so the
+ * reader shows an empty slot for a second: then each program sees that, and the next one begins with
+ * a reset. */
 bool serial_reader_is_lost(const struct serial_reader *reader);
 
 /* Resets the card, and takes its answer. */
@@ -62,7 +63,7 @@ const char *serial_reader_begin(struct serial_reader *reader, int protocol, bool
 extern const char SERIAL_READER_ROOM[];
 
 /* Carries a TPDU at T=0, or a command at T=1, to the card, and its answer back. At T=0 61XX and
- * 6CXX are answers, and Le after data is left out. A command that no TPDU can carry is a fault
+ * 6CXX are answers, and Le after data does not leave. A command that no TPDU can carry is a fault
  * before a byte is sent. After any other fault the card has no power. */
 const char *serial_reader_transmit(struct serial_reader *reader, const uint8_t *command, size_t n,
                                    uint8_t *answer, size_t room, size_t *size);

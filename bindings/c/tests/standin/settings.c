@@ -36,6 +36,8 @@ static void names(void)
     CHECK(reads("\"/dev/ttyS0:slack=1\""), 1);
     CHECK(strcmp(found.tty, "/dev/ttyS0"), 0);
     CHECK(found.slack, 1);
+    CHECK(reads("\"t:slack=15"), 1);
+    CHECK(found.slack, 15);
     CHECK(reads("\"/dev/serial/by-path/pci-0000:00:14.0:\""), 1);
     CHECK(strcmp(found.tty, "/dev/serial/by-path/pci-0000:00:14.0"), 0);
     CHECK(refuses("a:b:14.0", "unknown setting: '14.0'"), 1);

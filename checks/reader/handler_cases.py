@@ -244,7 +244,8 @@ def group(case):
     case("numbers of readers", lambda: with_card(numbers))
     case("tags, features", lambda: with_card(tags))
     case("power", lambda: with_card(power))
-    case("TPDUs", lambda: with_card(tpdus, "3B00"))
+    # an answer to reset of three bytes might be taken for one to the first command
+    case("TPDUs", lambda: with_card(tpdus, "3B1011"))
     case("commands", lambda: with_card(commands, "3B800181"))
     case("commands after PPS", lambda: with_card(commands, "3B9011800100"))
     case("no SetProtocolParameters", lambda: with_card(begins_itself, "3B9011800100"))

@@ -106,7 +106,7 @@ def presence(settings, empty, full):
         desk.await_session((1, EMPTY))
         desk.tty.switch(full)
         desk.await_session(DONE)
-        # pcscd may tell of a session that has just ended
+        # pcscd may report a session that has just ended
         same("gt_serial_reader: " in desk.pcscd.said(), False)
 
 

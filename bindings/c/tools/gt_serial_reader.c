@@ -228,14 +228,11 @@ RESPONSECODE IFDHControl(DWORD Lun, DWORD ControlCode, PUCHAR TxBuffer, DWORD Tx
 RESPONSECODE IFDHICCPresence(DWORD Lun)
 {
     struct serial_reader *reader = reader_of(Lun);
-    enum serial_reader_state state;
     const char *fault;
     if (reader == NULL)
         return IFD_NO_SUCH_DEVICE;
-    state = serial_reader_look(reader, &fault);
+    serial_reader_look(reader, &fault);
     if (fault != NULL)
         tell(reader, fault);
-    return state == SERIAL_READER_HAS_CARD && !serial_reader_is_lost(reader)
-        ? IFD_ICC_PRESENT
-        : IFD_ICC_NOT_PRESENT;
+    return serial_reader_is_lost(reader) ? IFD_ICC_NOT_PRESENT : IFD_ICC_PRESENT;
 }

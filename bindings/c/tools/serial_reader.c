@@ -167,8 +167,8 @@ static const char *copy_answer(gt_terminal *terminal, const uint8_t *status, uin
     return NULL;
 }
 
-/* Carries a TPDU. `is_sent` says whether a byte may have left. Programs send Le after data, which no
- * TPDU has: the terminal would only use it for GET RESPONSE. */
+/* Carries a TPDU. `is_sent` says whether a byte may have left. Programs send Le after data, which
+ * no TPDU has: the terminal would only use it for GET RESPONSE. */
 static const char *carry_tpdu(struct serial_reader *reader, const uint8_t *tpdu, size_t n,
                               uint8_t *answer, size_t room, size_t *size, bool *is_sent)
 {

@@ -42,9 +42,9 @@ const char *serial_reader_init(struct serial_reader *reader, const char *device)
  * any more loses its power. */
 enum serial_reader_state serial_reader_look(struct serial_reader *reader, const char **fault);
 
-/* Whether a command has just failed, or the slot was just empty. The card has lost its state, so the
- * reader shows an empty slot for a second: then each program sees that, and the next one begins with
- * a reset. */
+/* Whether, in the last second, a command has failed or a look has seen no card. The card has lost
+ * its state, so the reader shows an empty slot. Then each program sees that, and the next one
+ * begins with a reset. */
 bool serial_reader_is_lost(const struct serial_reader *reader);
 
 /* Resets the card, and takes its answer. */

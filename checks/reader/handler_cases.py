@@ -2,6 +2,7 @@
 
 import ctypes
 import subprocess
+import time
 
 from world import BUILD, INSTALLED, SELECT, SELECTED, Card, Room, Wrong, await_that, same
 
@@ -66,9 +67,9 @@ class Handler:
         return code, length.value
 
 
-def with_card(test, atr="3B00", settings="slack=2000"):
+def with_card(test, atr="3B00", settings="slack=2000", faults=()):
     with Room() as room:
-        card, handler = Card(room, "tty", atr), Handler()
+        card, handler = Card(room, "tty", atr, faults=faults), Handler()
         same(handler.create(LUN, f"{card.tty}:{settings}"), SUCCESS)
         try:
             test(handler, card)
@@ -168,6 +169,22 @@ def begins_itself(handler, _):
     same(handler.transmit(LUN, 0, SELECT), (COMMUNICATION, ""))
 
 
+def has_patience(handler, _):
+    """The time of a command begins with it, and not with the session."""
+    protocol = 0 if handler.power(LUN, UP)[1] == "3B00" else 1
+    for command, answer in ((SELECT, "610B"), ("00CA5F2006", "5F20034A4F459000")):
+        same(handler.transmit(LUN, protocol, command), (SUCCESS, answer))
+        time.sleep(1.2)
+
+
+def waits(handler, card):
+    """A card may take BWT, 1.6 s here."""
+    same(handler.power(LUN, UP)[0], SUCCESS)
+    same(handler.transmit(LUN, 1, SELECT), (SUCCESS, "610B"))
+    same(handler.transmit(LUN, 1, "00CA5F2006"), (SUCCESS, "5F20034A4F459000"))
+    same(card.struck(), True, "the fault has struck:")
+
+
 def is_lost(handler, card):
     """After a fault the slot is empty for a second, and the card has no power."""
     same(handler.power(LUN, UP)[0], SUCCESS)
@@ -251,5 +268,10 @@ def group(case):
     case("no SetProtocolParameters", lambda: with_card(begins_itself, "3B9011800100"))
     case("no copy of a secret at T=0", lambda: with_card(no_copy))
     case("no copy of a secret at T=1", lambda: with_card(no_copy, "3B800181"))
+    case("a card that takes most of BWT",
+         lambda: with_card(waits, "3B800181", "slack=400", ["command 2, delay 1s"]))
+    for atr in ("3B00", "3B800181"):
+        case(f"a session of more than the patience, {atr}",
+             lambda atr=atr: with_card(has_patience, atr, "slack=2000,patience=1"))
     case("after a fault", lambda: with_card(is_lost))
     case("no state", no_state)

@@ -87,14 +87,14 @@ def heads():
 
 
 def cut_line():
-    """Two forms read two of the first 64 lines each. The next one goes beyond 1,024 bytes: of a
-    program that reads as many at once it has a part, which would be a third line of the second
+    """Two forms read two of the first 256 lines each. The next one goes beyond 4,096 bytes: of a
+    program that reads 1,024 at once it has a part, which would be a third line of the second
     form."""
     first = ["C-APDU: 00CA5F2001", "R-APDU: 6A88"]
     second = ["Command --> 00CA5F2003", "Response <-- 4A4F459000"]
-    head = [*first, *second, *["n" * 14] * 59]
+    head = [*first, *second, *["n" * 14] * 100, *["n" * 15] * 151]
     cut = "Command --> 00CA5F2003"
-    place = 1024 - len("Command --> 00CA")
+    place = 4096 - len("Command --> 00CA")
     head.append("n" * (place - sum(len(line) + 1 for line in head) - 1))
     notes = [f"| {line}" for line in [*head[2:], cut]]
     wanted = ["#1 GET DATA of 5F20  (line 1)", *notes]

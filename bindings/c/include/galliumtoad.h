@@ -89,8 +89,14 @@ extern "C" {
 #define GT_MUST_CHECK GT_FUNCTION
 #endif
 
-#if SIZE_MAX != UINT64_MAX
-#error "galliumtoad is for 64-bit targets"
+/* Structs have the layout of 64-bit targets on each target: such a field begins at a multiple of 8,
+ * so that a size or pointer of 32 bits has room for 64. The library writes all 64. */
+#if SIZE_MAX == UINT64_MAX
+#define GT_AT_8_
+#elif SIZE_MAX == UINT32_MAX && defined(__GNUC__) && __BYTE_ORDER__ == __ORDER_LITTLE_ENDIAN__
+#define GT_AT_8_ __attribute__((aligned(8)))
+#else
+#error "galliumtoad is for little-endian targets of 64 or 32 bits"
 #endif
 
 /* ---- Codes ----------------------------------------------------------------------------------- */
@@ -438,8 +444,10 @@ typedef struct gt_object {
     uint32_t tag;
     uint8_t level;          /* from 1 to GT_LEVELS_LIMIT */
     uint8_t constructed;    /* 1 for a template, whose value is a list of objects; else 0 */
-    size_t place, size;     /* the first byte of its tag; tag, length and value together */
-    size_t value, length;   /* the first byte of its value; the number of its bytes */
+    size_t place GT_AT_8_, size GT_AT_8_;   /* the first byte of its tag; tag, length and value
+                                             * together */
+    size_t value GT_AT_8_, length GT_AT_8_; /* the first byte of its value; the number of its
+                                             * bytes */
 } gt_object;
 
 enum { GT_TERMINAL = 0, GT_CARD = 1 };
@@ -496,7 +504,7 @@ typedef struct gt_atr_t1 {
                                  * the first of its answer, in etu: 11; 0: BWI is reserved .. */
     uint16_t bgt_etu;           /* BGT: the least from the last character of a block to the first of
                                  * one the other way, in etu: 22 */
-    uint64_t bwt_cycles;        /* .. and as many clock cycles more, 2^BWI * 960 * 372; 0 with
+    uint64_t bwt_cycles GT_AT_8_; /* .. and as many clock cycles more, 2^BWI * 960 * 372; 0 with
                                  * bwt_etu. An S(WTX) multiplies both for one block */
 } gt_atr_t1;
 
@@ -504,12 +512,12 @@ typedef struct gt_atr_t1 {
  * (ISO/IEC 7816-3, 8.2, 8.3, 10.2 for WI, and clause 11 for T=1). A reserved code of Fi, Di, WI,
  * the classes or T=1 gives 0. */
 typedef struct gt_atr {
-    size_t length;              /* the number of its bytes, TS and TCK included: 2 to
+    size_t length GT_AT_8_;     /* the number of its bytes, TS and TCK included: 2 to
                                  * GT_ATR_LIMIT */
-    size_t historical;          /* the place of the first historical byte, from 0 for TS; without
+    size_t historical GT_AT_8_; /* the place of the first historical byte, from 0 for TS; without
                                  * any, the place after the interface bytes */
-    size_t historical_count;    /* their number, 0 to 15 */
-    uint8_t category;           /* their form: GT_HISTORY_NONE .. GT_HISTORY_OWN */
+    size_t historical_count GT_AT_8_; /* their number, 0 to 15 */
+    uint8_t category GT_AT_8_;  /* their form: GT_HISTORY_NONE .. GT_HISTORY_OWN */
     uint8_t convention;         /* GT_DIRECT or GT_INVERSE */
     uint8_t protocol_count;     /* the number of protocols offered, 1 to GT_PROTOCOLS_LIMIT */
     uint8_t protocols[GT_PROTOCOLS_LIMIT]; /* T of each, in the order offered; then 0 */
@@ -597,11 +605,11 @@ typedef struct gt_atr {
  *                 whole or at T=1, until it is carried out or dropped. gt_card_reset drops both
  * - a session     those of its card; the last answer and, if somebody listens, its characters,
  *                 until the next operation is carried out, or gt_session_end */
-typedef struct gt_exchange { bool live; void *held; } gt_exchange;
-typedef struct gt_terminal { bool live; void *held; } gt_terminal;
-typedef struct gt_t1 { bool live; void *held; } gt_t1;
-typedef struct gt_card { bool live; void *held; } gt_card;
-typedef struct gt_session { bool live; void *held; } gt_session;
+typedef struct gt_exchange { bool live; void *held GT_AT_8_; } gt_exchange;
+typedef struct gt_terminal { bool live; void *held GT_AT_8_; } gt_terminal;
+typedef struct gt_t1 { bool live; void *held GT_AT_8_; } gt_t1;
+typedef struct gt_card { bool live; void *held GT_AT_8_; } gt_card;
+typedef struct gt_session { bool live; void *held GT_AT_8_; } gt_session;
 
 /* ---- The archive's functions -----------------------------------------------------------------
  *

@@ -16,7 +16,7 @@ ALONE = {"text", "status_text", "status_words", "is_object", "version_fits", "ve
 COPIES = {"card_tpdu": "GT_TPDU_LIMIT", "card_apdu": "GT_APDU_LIMIT"}
 # The pointers that may be NULL, though they have a fixed number of elements: then that is 0.
 OPTIONAL = {("card_own", "directions")}
-HANDLE = r"typedef struct gt_\w+ \{ bool live; void \*held; \} (gt_\w+);"
+HANDLE = r"typedef struct gt_\w+ \{ bool live; void \*held GT_AT_8_; \} (gt_\w+);"
 # A narrower type, or the place of another parameter, would change these numbers.
 MOST = {"uint8_t": 0xF0, "uint16_t": 0xFED0, "uint32_t": 0xFEDCBA90, "size_t": 2**64 - 16}
 # Values of a flag, and lengths of a text.

@@ -4,7 +4,8 @@
  *
  * - rattle_alloc takes a new block, and rattle_dealloc frees one. In gt_taken `some` is true, and
  *   `at` is the block. If memory ran out `some` is false, and `at` is anything except NULL.
- * - A block is aligned to `align`, a power of two up to 16, and has `size` bytes, at least one.
+ * - A block is aligned to `align`, a power of two, and has `size` bytes, at least one. `align` is
+ *   at most 16, and at most 8 on 32-bit targets.
  * - rattle_realloc makes a block one of `size` bytes, more or fewer than it has; it may move, and
  *   then frees the old block. `kept` is the number of bytes in use at its front: at most as many as
  *   it has, and at most `size`. It copies these, and need copy no others. If memory runs out the

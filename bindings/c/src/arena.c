@@ -4,14 +4,23 @@
 #include "galliumtoad_heap.h"
 
 #include <stdint.h>
-#include <string.h>
 
 #ifndef GT_ARENA_SIZE
 #define GT_ARENA_SIZE 32768
 #endif
 
-/* blocks and what is before each are multiples of this many bytes, the strictest alignment */
+/* from outside, as the library calls them: a board without a C library has no <string.h> */
+void *memcpy(void *to, const void *from, size_t n);
+void *memset(void *at, int byte, size_t n);
+
+/* Blocks and what is before each are multiples of this many bytes, the strictest alignment of
+ * 64-bit targets. On 32-bit ones 8 would do. */
 #define UNIT ((size_t)16)
+#ifdef __GNUC__
+#define AT_A_UNIT __attribute__((aligned(16)))
+#else
+#define AT_A_UNIT
+#endif
 
 struct block {
     size_t size; /* bytes after this head */
@@ -21,11 +30,11 @@ struct block {
 
 #define HEAD ((sizeof(struct block) + UNIT - 1) / UNIT * UNIT)
 
-/* with the alignment of a long double, which is a unit on each target */
+/* without the attribute, with the alignment of a long double: a unit on 64-bit targets */
 static union {
     unsigned char bytes[GT_ARENA_SIZE];
     long double alignment;
-} arena;
+} arena AT_A_UNIT;
 
 /* A compiler must read which function this is, so it can't leave the call out. */
 static void *(*const volatile wipe)(void *, int, size_t) = memset;

@@ -80,7 +80,7 @@ class Front:
         parameters = found["parameters"].split(", ") if found["parameters"] else []
         types = [] if types == [""] else types
         if len(parameters) != len(types):
-            raise Unknown(f"{name} has {len(parameters)} parameters, and {len(types)} in the header")
+            raise Unknown(f"{name} has {len(parameters)} parameters, {len(types)} in the header")
         for parameter, of_c in zip(parameters, types):
             self.take(parameter.split(), of_c)
 
@@ -117,8 +117,8 @@ class Front:
         call = f"call {kind} @wide.galliumtoad_{self.name}({', '.join(self.given)})"
         body = [*self.before, call if kind == "void" else f"%code = {call}", *self.after,
                 "ret void" if kind == "void" else f"ret {kind} %code"]
-        begin = f"define {self.back} @galliumtoad_{self.name}({', '.join(self.taken)}){self.rest} {{"
-        return ["", begin, *(f"  {it}" for it in body), "}"]
+        call = f"{self.back} @galliumtoad_{self.name}({', '.join(self.taken)}){self.rest}"
+        return ["", f"define {call} {{", *(f"  {it}" for it in body), "}"]
 
 
 def with_fronts(lines, header):
@@ -132,8 +132,6 @@ def with_fronts(lines, header):
                 raise Unknown(f"the header does not declare galliumtoad_{name}")
             fronts += Front(name, found, types.pop(name)).lines()
             line = line.replace("define ", "define internal ", 1).replace("@", "@wide.", 1)
-        elif line.startswith("define ") and "@galliumtoad_" in line:
-            raise Unknown(line)
         out.append(line)
     if types:
         raise Unknown(f"the module has no {', '.join(sorted(types))}")

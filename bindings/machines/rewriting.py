@@ -47,7 +47,7 @@ SAME = re.compile("|".join(f"(?:{it})" for it in (
     rf"{NAME} = sext <16 x i1> {VALUE} to <16 x i8>", rf"{NAME} = bitcast <16 x i1> {VALUE} to i16",
     rf"(?:{NAME} = )?(?:tail )?call {BACK} (?!@llvm\.|@rattle_){GLOBAL}\(.*\)(?: #\d+)?",
     rf"(?:{NAME} = )?(?:tail )?call {BACK} @{PURE}.*\)(?: #\d+)?")))
-# What names the machine that the module was made for: clang is told another one.
+# What names the machine that the module was made for. clang gets another one.
 MACHINE = re.compile(r'^target (?:datalayout|triple) = .*\n| "target-cpu"="[^"]*"', re.M)
 LAYOUT = re.compile(r'^target datalayout = "e-', re.M)
 

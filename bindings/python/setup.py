@@ -23,8 +23,8 @@ def declarations():
     """The types, numbers and functions of the header, in the form that cffi reads."""
     text = re.sub(r"/\*.*?\*/", "", TEXT, flags=re.DOTALL)
     numbers = re.findall(r"^#define (GT_[A-Z_]+) (?:\d|\(GT_)", text, re.M)
-    text = re.sub(r'(?m)^#.*$|extern "C" \{|\bGT_(MUST_CHECK|FUNCTION|AT_8_)\b|\bstatic inline\b', "",
-                  text)
+    text = re.sub(r"\bGT_(MUST_CHECK|FUNCTION|AT_8_)\b", "", text)
+    text = re.sub(r'(?m)^#.*$|extern "C" \{|\bstatic inline\b', "", text)
     text = re.sub(r"\) \{\n.*?\n\}", ");", text, flags=re.DOTALL)  # a function's body
     items = re.findall(r"[^;{}]*(?:\{[^{}]*\}[^;{}]*)?;", text)
     public = [it.strip() for it in items if not re.search(r"\bgalliumtoad_|_\(", it)]

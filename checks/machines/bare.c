@@ -1,5 +1,5 @@
-/* A play on a Cortex-M without an operating system or a C library: the start, what memcpy and its
- * like do, and printing by semihosting. A fault of the processor ends it with a line that says so. */
+/* A play on a Cortex-M without an operating system or a C library: the start, memcpy and its like,
+ * and printing by semihosting. A fault of the processor ends it with a line that says so. */
 #include "sum.h"
 
 enum { WRITE0 = 0x04, REPORT_EXCEPTION = 0x18 };

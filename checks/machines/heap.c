@@ -1,5 +1,5 @@
-/* The library's memory for a play: that of arena.c, of which each request is mixed into the sum.
- * Some are refused. Behind each block is a guard, which must be there at the end. */
+/* The library's memory for a play, that of arena.c. Each request is mixed into the sum, and some
+ * are refused. Behind each block is a guard, which must be there at the end. */
 #include "sum.h"
 
 #define rattle_alloc arena_alloc

@@ -20,6 +20,7 @@ UNKNOWN = """\
   %v = load <2 x i64>, ptr %p, align 8
   %v = load float, ptr %p, align 4
   %v = load i24, ptr %p, align 4
+  %v = load { float, ptr }, ptr %p, align 8
   %v = load atomic i64, ptr %p seq_cst, align 8
   %v = load { i8, i8, ptr }, ptr %p, align 8
   %v = load { i8, { i8, ptr } }, ptr %p, align 8
@@ -157,9 +158,9 @@ class Lines(unittest.TestCase):
             narrow("  call void @llvm.memset.p0.i64(ptr %p, i8 0, i64 16, i1 false)"),
             ["  call void @llvm.memset.p0.i32(ptr %p, i8 0, i32 16, i1 false)"])
         self.assertEqual(
-            narrow("  call void @llvm.memmove.p0.p0.i64(ptr align 1 %p, ptr %q, i64 %n, i1 false)"),
+            narrow("  call void @llvm.memmove.p0.p0.i64(ptr align 1 %p, ptr %q, i64 %n, i1 true)"),
             ["  %narrow.0 = trunc i64 %n to i32",
-             "  call void @llvm.memmove.p0.p0.i32(ptr align 1 %p, ptr %q, i32 %narrow.0, i1 false)"])
+             "  call void @llvm.memmove.p0.p0.i32(ptr align 1 %p, ptr %q, i32 %narrow.0, i1 true)"])
         self.assertEqual(
             narrow("declare void @llvm.memcpy.p0.p0.i64(ptr noalias, ptr, i64, i1 immarg) #1"),
             ["declare void @llvm.memcpy.p0.p0.i32(ptr noalias, ptr, i32, i1 immarg) #1"])
@@ -194,7 +195,8 @@ class Fronts(unittest.TestCase):
         self.assertIn("define noundef i32 @galliumtoad_version() #0 {\n"
                       "  %code = call i32 @wide.galliumtoad_version()\n  ret i32 %code\n", text)
         self.assertIn("define void @galliumtoad_card_free(ptr noundef %a0) #0 {\n"
-                      "  call void @wide.galliumtoad_card_free(ptr noundef %a0)\n  ret void\n", text)
+                      "  call void @wide.galliumtoad_card_free(ptr noundef %a0)\n  ret void\n",
+                      text)
 
     def test_sizes_are_widened_and_narrowed(self):
         text = self.made()
@@ -207,8 +209,8 @@ class Fronts(unittest.TestCase):
             "  %a3.old = load i32, ptr %a3, align 4",
             "  %a3.wide = zext i32 %a3.old to i64",
             "  store i64 %a3.wide, ptr %a3.at, align 8",
-            "  %code = call i32 @wide.galliumtoad_head(i32 noundef %a0, ptr noundef %a1, i64 noundef"
-            " %a2.64, ptr noundef %a3.at)",
+            "  %code = call i32 @wide.galliumtoad_head(i32 noundef %a0, ptr noundef %a1, i64"
+            " noundef %a2.64, ptr noundef %a3.at)",
             "  %a3.told = load i64, ptr %a3.at, align 8",
             "  %a3.new = trunc i64 %a3.told to i32",
             "  store i32 %a3.new, ptr %a3, align 4",
@@ -220,7 +222,7 @@ class Fronts(unittest.TestCase):
                 ("uint32_t tag", "size_t tag", "takes i32 for size_t"),
                 ("uint8_t *head", "uint8_t head", "takes ptr for uint8_t"),
                 ("uint32_t tag", "uint32_t *tag", r"takes i32 for uint32_t \*"),
-                ("uint32_t tag, ", "", "4 parameters, and 3"),
+                ("uint32_t tag, ", "", "4 parameters, 3"),
                 ("galliumtoad_head", "galliumtoad_read", "does not declare galliumtoad_head"),
                 ("void galliumtoad_card_free", "void galliumtoad_t1_free(gt_t1 *t);\n"
                  "void galliumtoad_card_free", "the module has no t1_free")):
@@ -237,13 +239,13 @@ class Fronts(unittest.TestCase):
 class Kits(unittest.TestCase):
     """Folders that are no kit, and a kit with another compiler."""
 
-    def setUp(self):
+    def new_room(self):
         room = tempfile.TemporaryDirectory()
         self.addCleanup(room.cleanup)
-        self.room = Path(room.name)
+        return Path(room.name)
 
-    def tool(self, name, text):
-        file = self.room / "toolchain/bin" / name
+    def tool(self, room, name, text):
+        file = room / "toolchain/bin" / name
         file.parent.mkdir(parents=True, exist_ok=True)
         file.write_text(f"#!/bin/sh\n{text}\n", encoding="utf-8")
         file.chmod(0o755)
@@ -253,25 +255,27 @@ class Kits(unittest.TestCase):
             with self.assertRaisesRegex(kit.Fault, "no rt on the path"):
                 kit.Kit()
         with self.assertRaisesRegex(kit.Fault, "that is no kit"):
-            kit.Kit(self.room)
+            kit.Kit(self.new_room())
 
     def test_another_kit(self):
-        self.tool("clang", 'for it; do out=$it; done; echo other > "$out"')
-        self.tool("llvm-ar", "echo proved")
-        self.assertFalse(kit.Kit(self.room).is_proved("module"))
-        ran = subprocess.run([kit.HERE / "build", "--kit", self.room, "--to", self.room],
-                             capture_output=True, text=True, check=False)
+        room = self.new_room()
+        self.tool(room, "clang", 'for it; do out=$it; done; echo other > "$out"')
+        self.tool(room, "llvm-ar", "echo proved")
+        self.assertFalse(kit.Kit(room).is_proved("module"))
+        ran = subprocess.run([kit.HERE / "build", "--kit", room, "--to", room],
+                             capture_output=True, text=True, check=False, cwd=room)
         self.assertRegex(ran.stderr, "^build: clang of .* makes another object of the stored module"
                                      " than bindings/lib has: take the kit that README names$")
         self.assertEqual((ran.returncode, ran.stdout), (1, ""))
-        self.assertEqual([it.name for it in self.room.iterdir()], ["toolchain"])
-        self.tool("llvm-ar", "echo other")
-        self.assertTrue(kit.Kit(self.room).is_proved("module"))
+        self.assertEqual([it.name for it in room.iterdir()], ["toolchain"])
+        self.tool(room, "llvm-ar", "echo other")
+        self.assertTrue(kit.Kit(room).is_proved("module"))
 
     def test_a_compiler_that_fails(self):
-        self.tool("clang", "echo no such target >&2; exit 1")
+        room = self.new_room()
+        self.tool(room, "clang", "echo no such target >&2; exit 1")
         with self.assertRaisesRegex(kit.Fault, "clang of .* fails: no such target"):
-            kit.Kit(self.room).text("module")
+            kit.Kit(room).text("module")
 
 
 if __name__ == "__main__":

@@ -8,7 +8,7 @@
 /* Returns a number below `n`, the next of a row that is the same on each machine. */
 uint32_t any(uint32_t n);
 
-/* Fills `bytes` with up to `most` bytes, of which many mean something, and returns how many. */
+/* Fills `bytes` with up to `most` bytes, and returns how many. Many mean something. */
 size_t fill(uint8_t *bytes, size_t most);
 
 /* Mixes what a call gave into the sum. */
@@ -29,7 +29,7 @@ void read_bytes(void);
 void talk(void);
 void hold_session(void);
 
-/* Plays until so many calls were made. Returns a line of the sum and of what was counted. */
+/* Plays until `most` calls were made. Returns a line of the sum and of what was counted. */
 const char *play(uint32_t most);
 
 #endif

@@ -18,8 +18,8 @@ int is_asked(gt_card *card, int32_t said);
 
 typedef int32_t whole(gt_card *, const uint8_t *, size_t, uint8_t *, size_t, size_t *);
 
-/* The card's answer in `response` to the n bytes in `line`, by one of the calls for a whole. Returns
- * its length, or 0. */
+/* Writes the card's answer to the n bytes in `line` to `response`, by one of the calls for a whole.
+ * Returns its length, or 0. */
 size_t answered(gt_card *card, whole *call, size_t n);
 
 /* Carries the command of n bytes in `line` over blocks. Returns the length of its response in

@@ -40,12 +40,12 @@
  * A code is about the call, a status about the card: GT_OK with status 6982 is a call that
  * succeeded, and a value that is not stored. Check both. The statuses are listed above "A session".
  *
- * Targets: Linux on x86-64-v2 and on little-endian 64-bit ARM (AArch64). For others, of 32 bits
- * too, there is the same module, tested: the one whose source was proved for 64-bit targets, since
- * the toolchain's logic has a usize of 64 bits. bindings/machines lists them, and what could differ.
- * Memory comes from malloc and free, and is wiped before it is freed. The caller's own three functions may replace
+ * Targets: Linux on x86-64-v2 and on little-endian 64-bit ARM (AArch64). Others, of 32 bits too,
+ * get the same module, tested: its source is proved for 64-bit targets, since usize has 64 bits in
+ * the toolchain's logic. bindings/machines lists them, and what could differ. Memory comes from
+ * malloc and free, and is wiped before it is freed. The caller's own three functions may replace
  * these, and must not throw or longjmp: galliumtoad_heap.h describes them and their duties. Linking
- * also requires memcpy, memmove and memset. */
+ * also requires memcpy, memmove and memset, and on 32-bit boards the compiler's library, libgcc. */
 #ifndef GALLIUMTOAD_H
 #define GALLIUMTOAD_H
 

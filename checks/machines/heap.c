@@ -33,7 +33,7 @@ static gt_taken asked(size_t size, size_t align)
         return taken;
     }
     taken = arena_alloc(FRONT + size + GUARD, align);
-    if (!taken.some || (size_t)taken.at % align != 0)
+    if (!taken.some || align > 8 || (size_t)taken.at % align != 0)
         count_broken();
     memcpy(taken.at, &size, sizeof size);
     taken.at = (uint8_t *)taken.at + FRONT;

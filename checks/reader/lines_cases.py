@@ -106,8 +106,10 @@ def presence(settings, empty, full):
         desk.await_session((1, EMPTY))
         desk.tty.switch(full)
         desk.await_session(DONE)
-        # pcscd may report a session that has just ended
-        same("gt_serial_reader: " in desk.pcscd.said(), False)
+        # a session may begin before pcscd has seen that the card is gone
+        said = [it for it in desk.pcscd.said().splitlines()
+                if "gt_serial_reader: " in it and not it.endswith("the card has no power")]
+        same(said, [])
 
 
 def always():

@@ -150,7 +150,7 @@ def test_a_row_in_progress_is_not_to_be_decided(tmp_path):
         assert room.run(f"--{word}=1") == refused("row 1 is in progress")
         with pytest.raises(ValueError, match="row 1 is in progress"):
             journal.decide(1, word)
-    os.close(journal._file)
+    del journal
     assert room.to_decide() == {1: "unsure"}
 
 
@@ -353,7 +353,7 @@ def test_the_card_of_a_crashed_run_waits(tmp_path):
     journal = room.opened(2)
     assert journal.reserve() == 1
     journal.note(1, "begin", f"{journal_check(room, 1)} Slot0")
-    os.close(journal._file)
+    del journal
     name, out = room.names[0], room.run(go=False)[1]
     assert out.startswith("continuing: 0 of 2 rows done, 1 unsure\n")
     assert told(out)[:2] == [

@@ -138,7 +138,7 @@ def test_each_bit_that_flips_in_a_journal_is_found(tmp_path, monkeypatch):
     whole = undamaged(room)
     assert sorted(room.opened(3).rows) == [1, 2]
     file = os.open(tmp_path / "journal", os.O_RDWR)  # for all of them
-    monkeypatch.setattr(os, "open", lambda *_: file)
+    monkeypatch.setattr(os, "open", lambda *_: os.dup(file))
     for at in range(len(whole)):
         line = whole[:at].count(b"\n") + 1
         for bit in range(8):

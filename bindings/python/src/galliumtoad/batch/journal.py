@@ -10,6 +10,7 @@ import json
 import math
 import os
 import threading
+import weakref
 import zlib
 from dataclasses import asdict, dataclass, replace
 from datetime import datetime
@@ -152,6 +153,7 @@ class Journal:
             raise ValueError(f"there is no journal {path}: --new creates it")
         self._lock = fcntl.LOCK_SH if only_looks else fcntl.LOCK_EX
         self._file = os.open(path, os.O_RDONLY | os.O_NONBLOCK if only_looks else os.O_RDWR)
+        weakref.finalize(self, os.close, self._file)
         if (found := heading_of(path)) is None:
             raise ValueError(f"{path} is not a journal: line 1 is no heading of one")
         if found.table != place_of(table):

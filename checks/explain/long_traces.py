@@ -24,6 +24,7 @@ def traces():
     yield from long_logs()
     yield from heads()
     yield cut_line()
+    yield two_heads()
     yield dropped_chains(16, "50 3132  application label \"12\"")
     yield dropped_chains(17, "**")
 
@@ -68,6 +69,17 @@ def long_logs():
         titles = [f"#{it + 1} GET DATA of 5F22  (line {3 * it + notes + 1})" for it in range(count)]
         shown = [f"| {line}" for line in given[:notes]]
         yield f"a head with {notes} notes", [], given, [*shown, *titles], "form: jcshell\n"
+
+
+def two_heads():
+    """Two forms read 84 of the first 256 lines each. Those end in an answer of the second form."""
+    first = ["C-APDU: 00CA5F2001", "R-APDU: 6A88"] * 42
+    answer = " <= 41 42 43 44 45 46 47 48 49 41 42 43 44 45 46 47"
+    second = [" => 00 CA 5F 22 12", answer, "    48 49 90 00"] * 42
+    given = [f"{line:63}" for line in [*first, *["cm"] * 47, *second]]
+    titles = [f"#{it + 1} GET DATA of 5F20  (line {2 * it + 1})" for it in range(42)]
+    notes = [f"| {line}" for line in given[84:]]
+    return "two forms and a cut answer", [], given, [*titles, *notes], "form: C-APDU or jcshell\n"
 
 
 def heads():

@@ -39,14 +39,15 @@ def at_limits():
 
 
 def log_answers():
-    """An answer to READ BINARY in lines of 16 bytes, as `scriptor` and as OpenSC write it."""
+    """An answer to READ BINARY without Le in lines of 16 bytes, as `scriptor` and as OpenSC write
+    it."""
     title = ["#1 READ BINARY from byte 0 on  (line 1)"]
     lines = ["00" * 16] * (READ_LINES - 1) + ["00" * 14 + "9000"]
-    answer = ["> 00B0000000", f"< {lines[0]}", *lines[1:]]
+    answer = ["> 00B00000", f"< {lines[0]}", *lines[1:]]
     yield "the longest answer", ["--tpdu"], answer, title, ""
     error = f"line {READ_LINES + 2}: line too long\n"
     yield "an answer too long", ["--tpdu"], [*answer, "00"], title, error
-    command = ["Outgoing APDU (5 bytes):", "00 B0 00 00 00 ....."]
+    command = ["Outgoing APDU (4 bytes):", "00 B0 00 00 ...."]
     dump = ["00 " * 16] * (READ_LINES - 1) + ["00 " * 14 + "90 00 "]
     head = f"Incoming APDU ({16 * READ_LINES} bytes):"
     yield "the longest dump", ["--tpdu"], [*command, head, *dump], title, ""

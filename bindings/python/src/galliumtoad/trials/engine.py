@@ -9,6 +9,7 @@ import signal
 import tempfile
 import threading
 import time
+import weakref
 from abc import ABC, abstractmethod
 from dataclasses import dataclass
 from queue import Empty, SimpleQueue
@@ -70,6 +71,7 @@ class Room:
 
     def __init__(self, terminal: Terminal) -> None:
         self.tmp = tempfile.mkdtemp(prefix="trials-")
+        weakref.finalize(self, shutil.rmtree, self.tmp, True)  # what an interrupt has left
         self.names = {**terminal.names, "tty": "", "tmp": self.tmp}
         self.environment = dict(os.environ)
         if terminal.has_home:

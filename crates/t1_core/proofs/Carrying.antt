@@ -17,7 +17,7 @@ use Rattle.t1_core.specs.Block.{Block}
 use Rattle.t1_core.specs.CardSide.{Card, Did, Meaning, card_after, card_meets}
 use Rattle.t1_core.specs.Carried.{EndsOf, HasCarried, Past, adds, answers_in, at_rest, more, nothing_yet, with_command, world_now}
 use Rattle.t1_core.specs.Conversing.{Conversed, HasEnded}
-use Rattle.t1_core.specs.Doing.{Agrees, IsKeeping, IsOfSome, after, commands_of, meaning_of, ran_with}
+use Rattle.t1_core.specs.Doing.{Agrees, DoesSome, IsKeeping, IsOfSome, after, commands_of, meaning_of, ran_with}
 use Rattle.t1_core.specs.Passing.{AreHeard, IsHeard, Passes, PassesWith}
 use Rattle.t1_core.specs.TerminalSide.{Terminal, begins, first_phase, fresh, is_ready, has_stopped, fault_in, fault_of, outcome_of, sends, sends_in, takes}
 use Rattle.t1_core.specs.World.{World, IsAtMostOnce, IsFrontOf, IsRight, IsTrue, all_blocks, arrives, exchange, exchanged, most_exchanges, responses, run, settle, size_after, start}
@@ -187,35 +187,41 @@ module _ {C : Type 0} (a : Ghosts C) where
 
   -- the next command begins, while none is in progress
   pub carried_begins : (past : Past a.State) (now : List Fates) (e f : EndsOf C) (c : List ℕ)
-      → HasCarried a past now e → is_ready e.terminal.phase ≡ true
+      (h : HasCarried a past now e) → is_ready e.terminal.phase ≡ true
       → f ≡ record { terminal = begins c e.terminal; card = e.card }
-      → HasCarried a (with_command past c f.terminal) now f
+      → (then_is : HasCarried a (with_command past c f.terminal) now f) × (then_is.did ≡ h.did)
   carried_begins past now e f c h ready is =
-      let P : EndsOf C → Type 0 = λ x. HasCarried a (with_command past c x.terminal) now x in
-      subst P (sym is) (record {
-        did = h.did;
-        does = h.does;
-        short = h.short;
-        sent = h.sent;
-        keeping = h.keeping;
-        line = h.line;
-        passed = h.passed;
-        fates = h.fates;
-        heard = h.heard;
-        sized = h.sized;
-        leads = λ m g cs.
-            ap (λ all. run m h.fates (start past.settings [] all))
-            (append_assoc past.commands (c ∷ []) cs)
-            ∙ h.leads m g (c ∷ cs)
-            ∙ ap (λ p. adds p (c ∷ cs) (world_now e h.did h.sent past.answers))
-            (is_over e.terminal.phase ready)
-            ∙ sym (behind_it (first_phase e.terminal.opened) (begins c e.terminal)
-            (after e.card (commands_of h.did) h.sent) [] cs past.answers
-            (first_moves e.terminal.opened));
-        few = λ m g.
-            let le = h.few m g in
-            let most = most_more past.settings m past.commands (c ∷ []) in omega (arith, le, most);
-      })
+      let P : EndsOf C → Type 0 = λ x.
+      (then_is : HasCarried a (with_command past c x.terminal) now x)
+      × (then_is.did ≡ h.did) in
+      subst P (sym is) (
+        (record {
+          did = h.did;
+          does = h.does;
+          short = h.short;
+          sent = h.sent;
+          keeping = h.keeping;
+          line = h.line;
+          passed = h.passed;
+          fates = h.fates;
+          heard = h.heard;
+          sized = h.sized;
+          leads = λ m g cs.
+              ap (λ all. run m h.fates (start past.settings [] all))
+              (append_assoc past.commands (c ∷ []) cs)
+              ∙ h.leads m g (c ∷ cs)
+              ∙ ap (λ p. adds p (c ∷ cs) (world_now e h.did h.sent past.answers))
+              (is_over e.terminal.phase ready)
+              ∙ sym (behind_it (first_phase e.terminal.opened) (begins c e.terminal)
+              (after e.card (commands_of h.did) h.sent) [] cs past.answers
+              (first_moves e.terminal.opened));
+          few = λ m g.
+              let le = h.few m g in
+              let most = most_more past.settings m past.commands (c ∷ []) in
+              omega (arith, le, most);
+        }),
+        refl,
+      )
     where
       first_moves : (opened : Bool) → has_stopped (first_phase opened) ≡ false
       first_moves true = refl
@@ -263,37 +269,45 @@ module _ {C : Type 0} (a : Ghosts C) where
 
     pub carried_next : next ≡ now ++ y ∷ [] → IsHeard a y x
         → Passes a x e.terminal f.terminal e.card f.card
-        → HasCarried a (with_command past command f.terminal) next f
+        → (did : Option Did) × DoesSome a.Does (a.standing e.card.card) did (a.standing f.card.card)
+        × (then_is : HasCarried a (with_command past command f.terminal) next f)
+        × (then_is.did ≡ log_with h.did did)
     carried_next one_more heard p =
-        let (did, later, keeps, goes, step) = p h.sent h.keeping in record {
-          did = log_with h.did did;
-          does = does_with a.Does past.first (a.standing e.card.card) (a.standing f.card.card) h.did
-              did h.does goes;
-          short = short_with a.Does (a.standing e.card.card) (a.standing f.card.card) h.did did
-              h.short goes;
-          sent = later;
-          keeping = keeps;
-          line = h.line ++ y ∷ [];
-          passed = one_more ∙ ap (λ l. l ++ y ∷ []) h.passed
-              ∙ append_assoc past.passed h.line (y ∷ []);
-          fates = h.fates ++ x ∷ [];
-          heard = one_more_heard h.line h.fates y x h.heard heard;
-          sized = (received x e f h.sent h.keeping moving h.sized p).0.1;
-          leads = λ m g cs.
-              let b = before_it m h.did did g in
-              let ran = commands_of h.did in
-              run_more m h.fates x (start past.settings [] (so_far.commands ++ cs))
-              ∙ ap (exchange m x) (h.leads m b.0 cs)
-              ∙ passed_on m x e.terminal f.terminal (after e.card ran h.sent)
-              (after f.card (ran_with ran did) later) cs past.answers moving (step m ran b.1)
-              ∙ ap (λ r. more cs (at_rest f.terminal (after f.card r later)
-              (answers_in f.terminal.phase f.terminal.got past.answers)))
-              (sym (commands_with h.did did));
-          few = λ m g.
-              let lt = fewer m (before_it m h.did did g).0 in
-              let n = length-append h.fates (x ∷ []) in
-              omega (arith, lt, n);
-        }
+        let (did, later, keeps, goes, step) = p h.sent h.keeping in (
+          did,
+          goes,
+          record {
+            did = log_with h.did did;
+            does = does_with a.Does past.first (a.standing e.card.card) (a.standing f.card.card)
+                h.did
+                did h.does goes;
+            short = short_with a.Does (a.standing e.card.card) (a.standing f.card.card) h.did did
+                h.short goes;
+            sent = later;
+            keeping = keeps;
+            line = h.line ++ y ∷ [];
+            passed = one_more ∙ ap (λ l. l ++ y ∷ []) h.passed
+                ∙ append_assoc past.passed h.line (y ∷ []);
+            fates = h.fates ++ x ∷ [];
+            heard = one_more_heard h.line h.fates y x h.heard heard;
+            sized = (received x e f h.sent h.keeping moving h.sized p).0.1;
+            leads = λ m g cs.
+                let b = before_it m h.did did g in
+                let ran = commands_of h.did in
+                run_more m h.fates x (start past.settings [] (so_far.commands ++ cs))
+                ∙ ap (exchange m x) (h.leads m b.0 cs)
+                ∙ passed_on m x e.terminal f.terminal (after e.card ran h.sent)
+                (after f.card (ran_with ran did) later) cs past.answers moving (step m ran b.1)
+                ∙ ap (λ r. more cs (at_rest f.terminal (after f.card r later)
+                (answers_in f.terminal.phase f.terminal.got past.answers)))
+                (sym (commands_with h.did did));
+            few = λ m g.
+                let lt = fewer m (before_it m h.did did g).0 in
+                let n = length-append h.fates (x ∷ []) in
+                omega (arith, lt, n);
+          },
+          refl,
+        )
 
   -- ---- the history is a dialogue; after a fault also of any further commands
 
@@ -321,9 +335,12 @@ module _ {C : Type 0} (a : Ghosts C) where
           by Over none = rw (none refl) refl
           by _ none = refl
 
-      pub conversed : Conversed a past.settings past.first (a.standing e.card.card) all past.answers
+      abbrev pub Dialogue : Type 0
+      Dialogue = Conversed a past.settings past.first (a.standing e.card.card) all past.answers
           (fault_of e.terminal) past.passed now
-      conversed =
+
+      pub conversed_by : (d : Dialogue) × (d.did ≡ h.did)
+      conversed_by =
           let t = e.terminal in
           let ran = commands_of h.did in
           let once : IsAtMostOnce own [] all end = subst (λ v. IsAtMostOnce own [] all v) end_is
@@ -331,44 +348,50 @@ module _ {C : Type 0} (a : Ghosts C) where
           let same : ran ≡ once.ran = once.ran_is in
           let right : IsRight own.does [] all ran past.answers =
           subst (λ r. IsRight own.does [] all r past.answers) (sym same) once.right in
-          let responses_so = responses_are own [] h.did agrees in
-          record {
-            did = h.did;
-            does = h.does;
-            line = h.line;
-            passed = h.passed;
-            fates = h.fates;
-            heard = h.heard;
-            by_blocks = subst (λ v. HasEnded v ran past.answers (fault_of t)) (sym end_is) (record {
-              stopped = stop;
-              ran_is = refl;
-              answers_are = refl;
-              fault_is = refl;
-            });
-            carried_out = right.carried_out;
-            answered = subst (λ rs. IsFrontOf past.answers rs) responses_so right.answered;
-            all_but_one =
-                let n = length-map h.did (λ (d : Did). d.command) in
-                let le = right.all_but_one in
-                omega (arith, n, le);
-            told = λ f is.
-                let (cause, given, outcome) = told_by t.phase t f is in
-                subst (λ o. IsTrue o ran past.answers) (sym outcome)
-                (subst (λ r. IsTrue (outcome_of t) r past.answers) (sym same)
-                (once.told cause given));
-            finished = λ is.
-                let done = once.finished (over_by t.phase t stop is) in
-                (same ∙ done.0, done.1 ∙ ap (responses own.does []) (sym same) ∙ responses_so);
-            few =
-                let le = h.few own agrees in
-                let most = most_more past.settings own past.commands rest in
-                subst (λ cs. length h.fates ≤ most_exchanges past.settings own [] cs) whole
-                (omega (arith, le, most));
-            survived = λ f enough mild.
-                no_fault t.phase t (λ cause given.
-                never_given_up own f past.settings [] all h.fates cause enough mild
-                (ap (λ v. v.terminal.phase) end_is ∙ given));
-          }
+          let responses_so = responses_are own [] h.did agrees in (
+            record {
+              did = h.did;
+              does = h.does;
+              line = h.line;
+              passed = h.passed;
+              fates = h.fates;
+              heard = h.heard;
+              by_blocks = subst (λ v. HasEnded v ran past.answers (fault_of t)) (sym end_is)
+                  (record {
+                    stopped = stop;
+                    ran_is = refl;
+                    answers_are = refl;
+                    fault_is = refl;
+                  });
+              carried_out = right.carried_out;
+              answered = subst (λ rs. IsFrontOf past.answers rs) responses_so right.answered;
+              all_but_one =
+                  let n = length-map h.did (λ (d : Did). d.command) in
+                  let le = right.all_but_one in
+                  omega (arith, n, le);
+              told = λ f is.
+                  let (cause, given, outcome) = told_by t.phase t f is in
+                  subst (λ o. IsTrue o ran past.answers) (sym outcome)
+                  (subst (λ r. IsTrue (outcome_of t) r past.answers) (sym same)
+                  (once.told cause given));
+              finished = λ is.
+                  let done = once.finished (over_by t.phase t stop is) in
+                  (same ∙ done.0, done.1 ∙ ap (responses own.does []) (sym same) ∙ responses_so);
+              few =
+                  let le = h.few own agrees in
+                  let most = most_more past.settings own past.commands rest in
+                  subst (λ cs. length h.fates ≤ most_exchanges past.settings own [] cs) whole
+                  (omega (arith, le, most));
+              survived = λ f enough mild.
+                  no_fault t.phase t (λ cause given.
+                  never_given_up own f past.settings [] all h.fates cause enough mild
+                  (ap (λ v. v.terminal.phase) end_is ∙ given));
+            },
+            refl,
+          )
+
+      pub conversed : Dialogue
+      conversed = conversed_by.0
 
   -- ---- a list of commands
 

@@ -5,6 +5,7 @@ ghost use Rattle.t1_core.specs.declared.settings.Settings.{Settings};
 ghost use Rattle.t1_core.specs.Carried.{EndsOf, HasCarried, Past, nothing_yet, with_command};
 ghost use Rattle.t1_core.specs.Conversing.{Conversed};
 ghost use Rattle.t1_core.specs.Doing.{AreRooms};
+ghost use Rattle.t1_core.specs.OneCommand.{HasDone};
 ghost use Rattle.t1_core.specs.TerminalSide.{fault_of, fresh, has_stopped, is_ready};
 
 use crate::applet::Applet;
@@ -63,6 +64,9 @@ impl<C: Applet> Ends<C> {
             → HasCarried C.Applet past (L.passed line.old) self.old
             → HasCarried C.Applet (with_command past command.now self.new.terminal)
             (L.passed line.new) self.new) }
+        // What this command has done to the card.
+        ensures done { OnOk result (HasDone C.Does (C.standing self.old.card.card) command.now
+            self.new.terminal.got (C.standing self.new.card.card) (fault_of self.new.terminal)) }
         ensures nothing_sent { OnErr result
             ((self.new ≡ self.old) × (L.passed line.new ≡ L.passed line.old)) }
         ensures memory { OnErr result (261 < length command.now) }

@@ -12,7 +12,9 @@ use Rattle.t0_core.specs.CardSide.{EndOf, Stage, Taking_header, Refusing, Servin
 use Rattle.t0_core.specs.CardSide.{ask_of as ask_in}
 use Rattle.t0_core.specs.Dialogue.{Body}
 use Rattle.t0_core.specs.Front.{Front, In_header, In_body, After_first}
-use Rattle.t0_core.specs.History.{passed}
+use Rattle.std.specs.List.{AllByRecursion}
+use Rattle.t0_core.specs.CardHistory.{Leads}
+use Rattle.t0_core.specs.History.{Event, IsByteEvent, passed}
 use Rattle.t0_core.specs.Meaning.{Ask, IsReceiving, Prepared, Receiving, Tpdu}
 use Rattle.std.specs.Prelude.{◌==◌, is_some}
 use Rattle.std.proofs.lemmas.Bool.{eqb-true}
@@ -27,8 +29,8 @@ use Rattle.command_card.proofs.AnswerLemmas.{both_true}
 use Rattle.command_card.specs.Carrying.{asking, taking}
 use Rattle.command_card.specs.declared.given.Directions.{Directions}
 use Rattle.command_card.specs.Given.{Answers, GivenState, after_drop, at_rest, go_to_card, settled, takes_data}
-use Rattle.command_card.specs.Giving.{Decided, Gave, Giving, LeadsBy, LeadsStill, Lends, Responded, Shows, Tells, TookBack, reaches, shown_in}
-use Rattle.command_card.specs.Lending.{LeadsLent, Lent}
+use Rattle.command_card.specs.Giving.{Decided, Gave, Giving, LeadsBy, LeadsStill, LedLent, Lends, Responded, Shows, Tells, TookBack, given_card, reaches, shown_in}
+use Rattle.command_card.specs.Lending.{Happening, LeadsLent, Lent, On_line, line_of}
 use Rattle.command_card.specs.Meaning.{Does, Kind, Invalid, Hands, Unfetched, Takes, Asks, kind_in, kind_of}
 use Rattle.command_card.specs.State.{CardState, Hand, is_fetch, pending_for}
 use Rattle.command_card.specs.View.{CardOf, ask_of, after_reset, prepared_in, prepared_of, standing_in}
@@ -419,3 +421,32 @@ within P Q (Err e) all = tt
 pub on_ok : {R E X Y : Type 0} (r : Result R E) → (X → Y) → OnOk r X → OnOk r Y
 on_ok (Ok x) f is = f is
 on_ok (Err e) f is = tt
+
+-- ---- a character, after the card was lent
+
+-- the clause `line` of the law `the_line_leads_on_after_lending`
+abbrev pub LineLeads : Type 0
+LineLeads = (first old new : CardState GivenState) (hs : List (Happening Giving)) (e : Event)
+    (before prepared : Prepared (CardState GivenState)) (at stage : Stage)
+    → AllByRecursion IsByteEvent (line_of hs ++ e ∷ [])
+    → ((f : CardState GivenState) (events : List Event)
+    → Leads (Does takes_data Answers) (after_reset after_drop) f events old before at
+    → Leads (Does takes_data Answers) (after_reset after_drop) f (events ++ e ∷ []) new prepared
+    stage)
+    → LeadsLent (Does takes_data Answers) (after_reset after_drop) Lends first hs old before at
+    → LeadsLent (Does takes_data Answers) (after_reset after_drop) Lends first
+    (hs ++ On_line e ∷ []) new prepared stage
+
+-- the same between two ends
+pub one_leads : LineLeads → (first : CardState GivenState) (old new : OwnEnd)
+    (hs : List (Happening Giving)) (e : Event)
+    → AllByRecursion IsByteEvent (line_of hs ++ e ∷ [])
+    → ((f : CardState GivenState) (events : List Event)
+    → Leads given_card.Does given_card.after_reset f events (given_card.standing old.card)
+    (given_card.prepared old.card) old.stage
+    → Leads given_card.Does given_card.after_reset f (events ++ e ∷ [])
+    (given_card.standing new.card) (given_card.prepared new.card) new.stage)
+    → LedLent first hs old → LedLent first (hs ++ On_line e ∷ []) new
+one_leads line first old new hs e bytes led lent = line first (standing_in at_rest old.card)
+    (standing_in at_rest new.card) hs e (prepared_in at_rest settled old.card)
+    (prepared_in at_rest settled new.card) old.stage new.stage bytes led lent

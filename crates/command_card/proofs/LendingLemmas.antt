@@ -3,7 +3,9 @@ use Rattle.std.proofs.Common.{◌≡◌, ◌∙◌, ◌⊎◌, ℕ, List, [], �
 use Rattle.std.specs.List.{AllByRecursion, flat_map}
 use Rattle.std.proofs.lemmas.List.{map-append}
 use Rattle.t0_core.specs.declared.end.End.TheVariants.{Card}
-use Rattle.t0_core.specs.Character.{Character}
+use Rattle.t0_core.specs.declared.end.End.{End}
+use Rattle.t0_core.specs.Buffers.{Steps}
+use Rattle.t0_core.specs.Character.{Character, sent_by}
 use Rattle.t0_core.specs.CardContract.{IsDecided}
 use Rattle.t0_core.specs.CardHistory.{Leads}
 use Rattle.t0_core.specs.CardSide.{Stage, StandsAt, Taking_header, Refusing, Serving, Ending}
@@ -13,7 +15,7 @@ use Rattle.t0_core.specs.Front.{Front, In_header, In_body, After_first, IsFront,
 use Rattle.t0_core.specs.History.{AreAlikeInTurn, AreCutInto, Event, IsByteEvent, Item, Whole, Cut_off, IsItem, IsPart, Passed, Reset, RunsOver, events_of, passed}
 use Rattle.t0_core.specs.HistoryLaws.{leads_are_cut}
 use Rattle.t0_core.specs.Meaning.{Prepared, Tpdu, tpdu_of}
-use Rattle.command_card.specs.Lending.{AreLent, Happening, IsStretch, LeadsLent, Lent, On_line, Passes, RunsLent, Stretch, happenings_of, line_of}
+use Rattle.command_card.specs.Lending.{AreLent, Happening, IsStretch, LeadsLent, Lent, On_line, Passes, RunsLent, Stretch, happenings_of, line_of, on_line}
 
 -- ---- lists
 
@@ -372,3 +374,33 @@ module _ {K State : Type 0} (Does : State → ℕ → Tpdu → State → Type 0)
             are_lent = refl;
             at_front = next.at_front;
           }
+
+-- ---- many characters
+
+-- What led to an end leads on by a character of this side, and so by many.
+pub many_lead : {E K : Type 0} (who : End) (Step : E → ℕ → E → Type 0)
+    (Led : List (Happening K) → E → Type 0)
+    (one : (old new : E) (b : ℕ) (hs : List (Happening K)) → Step old b new
+    → AllByRecursion IsByteEvent (line_of hs ++ Passed (who, b) ∷ [])
+    → Led hs old → Led (hs ++ On_line (Passed (who, b)) ∷ []) new)
+    (bs : List ℕ) (old new : E) (hs : List (Happening K)) → Steps Step old bs new
+    → AllByRecursion IsByteEvent (line_of hs ++ passed (sent_by who bs))
+    → Led hs old → Led (hs ++ on_line (passed (sent_by who bs))) new
+many_lead {E = E} {K = K} who Step Led one [] old new hs is bytes led =
+    subst (λ (e : E). Led (hs ++ []) e) (sym is)
+    (subst (λ (xs : List (Happening K)). Led xs old) (sym (append-nil hs)) led)
+many_lead {E = E} {K = K} who Step Led one (b ∷ bs) old new hs (next, step, rest) bytes led =
+    let e : Event = Passed (who, b) in
+    let more : List Event = passed (sent_by who bs) in
+    let once : List (Happening K) = hs ++ On_line e ∷ [] in
+    let line_is : line_of once ++ more ≡ line_of hs ++ e ∷ more =
+    ap (λ (es : List Event). es ++ more) (line_append hs (On_line e ∷ []))
+    ∙ append_assoc (line_of hs) (e ∷ []) more in
+    let all : AllByRecursion IsByteEvent (line_of once ++ more) =
+    subst (λ (es : List Event). AllByRecursion IsByteEvent es) (sym line_is) bytes in
+    let front : AllByRecursion IsByteEvent (line_of hs ++ e ∷ []) =
+    subst (λ (es : List Event). AllByRecursion IsByteEvent es) (line_append hs (On_line e ∷ []))
+    (all_front IsByteEvent (line_of once) more all) in
+    subst (λ (xs : List (Happening K)). Led xs new)
+    (append_assoc hs (On_line e ∷ []) (on_line more))
+    (many_lead who Step Led one bs next new once rest all (one old next b hs step front led))

@@ -1,6 +1,7 @@
 pub mod HandLemmas
 pub mod AnswerLemmas
 pub mod AppletLemmas
+pub mod CallLemmas
 pub mod CutLemmas
 pub mod WholeLemmas
 pub mod DeedLemmas
@@ -13,4 +14,5 @@ pub mod LendingLemmas
 pub mod SentLemmas
 pub mod GivingLemmas
 pub mod GivenEndLemmas
+mod RestLemmas
 mod GivingVectors

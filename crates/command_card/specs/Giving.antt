@@ -3,6 +3,7 @@ use Rattle.std.specs.Prelude.{◌≡◌, ◌⊎◌, ℕ, ◌≤◌, List, [], �
 use Rattle.apdu_core.specs.CommandBytes.{Command}
 use Rattle.apdu_core.specs.StatusWord.{count}
 use Rattle.t0_core.specs.declared.direction.Direction.TheVariants.{ToCard}
+use Rattle.t0_core.specs.declared.tpdu_card.TpduCard.{Ghosts}
 use Rattle.t0_core.specs.CardSide.{EndOf}
 use Rattle.t0_core.specs.Dialogue.{Body}
 use Rattle.t0_core.specs.Front.{Front, In_header, In_body, After_first}
@@ -15,7 +16,7 @@ use Rattle.command_card.specs.Given.{Answer, Answers, GivenState, after_drop, at
 use Rattle.command_card.specs.Lending.{Happening, LeadsLent, Lent}
 use Rattle.command_card.specs.Meaning.{Asks, Does, Kind, Takes, kind_in}
 use Rattle.command_card.specs.State.{CardState, is_fetch}
-use Rattle.command_card.specs.View.{CardOf, after_reset, prepared_in, standing_in}
+use Rattle.command_card.specs.View.{CardOf, MayReceive, MaySend, after_reset, prepared_in, standing_in}
 use Rattle.command_card.specs.AtT1.{shown}
 use Rattle.command_card.specs.Wanted.{RespondsAs, is_known}
 
@@ -61,6 +62,18 @@ Lends (Decided to_card) front old new = (is_known old.app.directions ≡ false)
 Lends TookBack front old new = new ≡ record old { app = after_drop old.app }
 Lends (Responded c reached response) front old new =
     (reached ≡ reaches old c) × RespondsAs old c response new
+
+-- a card of given responses, as its end of the line sees it
+abbrev pub given_card : Ghosts (CardOf GivenState)
+given_card = record {
+  State = CardState GivenState;
+  standing = λ card. standing_in at_rest card;
+  Does = Does takes_data Answers;
+  after_reset = after_reset after_drop;
+  MayReceive = MayReceive takes_data;
+  MaySend = MaySend takes_data;
+  prepared = λ card. prepared_in at_rest settled card;
+}
 
 -- these happenings led to the end of a card of given responses
 abbrev pub LedLent : CardState GivenState → List (Happening Giving) → EndOf (CardOf GivenState)

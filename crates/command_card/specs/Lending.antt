@@ -24,6 +24,16 @@ lent_of [] = []
 lent_of (On_line e ∷ hs) = lent_of hs
 lent_of (Lent k ∷ hs) = k ∷ lent_of hs
 
+-- these events, and nothing that was done to the card
+abbrev pub on_line : {K : Type 0} → List Event → List (Happening K)
+on_line [] = []
+on_line (e ∷ es) = On_line e ∷ on_line es
+
+-- this was done to the card, and nothing moved on the line
+abbrev pub all_lent : {K : Type 0} → List K → List (Happening K)
+all_lent [] = []
+all_lent (k ∷ ks) = Lent k ∷ all_lent ks
+
 -- A whole dialogue, or a reset with what it cut off. `last`: its last character, or the reset.
 pub record Stretch (K : Type 0) : Type 0 where
   pub item : Item

@@ -6,6 +6,7 @@ pub mod Given
 pub mod Wanted
 pub mod WantedLaws
 pub mod AtT1
+pub mod Calls
 pub mod Told
 pub mod Alike
 pub mod Deeds

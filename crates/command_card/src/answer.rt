@@ -6,9 +6,10 @@ ghost use Rattle.apdu_core.specs.HeaderBytes.{ins_is_valid};
 ghost use Rattle.apdu_core.specs.StatusWord.{IsStatusWord, count};
 ghost use Rattle.t0_core.specs.Meaning.{IsReceiving, Decides, taken_with};
 ghost use Rattle.t0_core.specs.CardContract.{IsRefusal, Judges};
-ghost use Rattle.command_card.specs.Carrying.{Makes};
+ghost use Rattle.command_card.specs.Calls.{CallsAfter, CallsAt, CallsOnce, settles_in};
+ghost use Rattle.command_card.specs.Carrying.{Makes, taking};
 ghost use Rattle.command_card.specs.State.{Hand, same_header, pending_for, announcing, fetch_left, handed, refusing};
-ghost use Rattle.command_card.specs.Meaning.{Does};
+ghost use Rattle.command_card.specs.Meaning.{Does, kind_in};
 ghost use Rattle.command_card.specs.View.{left_of, state_of, ask_of, prepared_of, buffer_of, IsReady, IsEmptied, Prepares, MaySend, WaitsFor, LeavesFor};
 
 use crate::application::{Application, GET_RESPONSE, OWN_RESPONSE_LIMIT};
@@ -89,6 +90,7 @@ pub(crate) fn carried_out<A: Application>(
     ensures stands { A.standing application.new ≡ A.standing application.old }
     ensures makes { Makes A.Does (A.standing application.old) command.entry response.new.items
         result.0 (if result.1 then A.next application.new else A.standing application.old) }
+    ensures called { CallsOnce A.Called application.old command.entry result.1 application.new }
 {
     wipe(response);
     let Ok(status) = application.carry_out(command, response) else {
@@ -100,6 +102,18 @@ pub(crate) fn carried_out<A: Application>(
         return (word(0x6F, 0x00), false);
     }
     (status, true)
+}
+
+/// The command that was carried out takes effect, if it is to.
+#[inline(always)]
+pub(crate) fn settle_if<A: Application>(settles: bool, application: &mut A)
+    ensures stands { A.standing application.new
+        ≡ (if settles then A.next application.old else A.standing application.old) }
+    ensures called { CallsAfter A.Called application.old settles application.new }
+{
+    if settles {
+        application.settle();
+    }
 }
 
 /// Drops the kept bytes, as `wipe`, if nothing is pending.
@@ -117,6 +131,7 @@ fn refused(status: Status, settles: bool, fresh: bool) -> (Verdict, Ready)
     ensures refuses { result.0 ≡ Verdict.Refuse status }
     ensures prepares { (bytes : List ℕ) (header : Header) (p3 cut : ℕ) →
         Prepares bytes (ask_of header p3 cut) (refusing status) settles fresh result.0 result.1 }
+    ensures ending { settles_in result.1 ≡ settles }
     ensures under { (h : Header) → LeavesFor result.1 h → ⊥ }
 {
     let ending = Ending {
@@ -142,6 +157,7 @@ fn handed(
         (handed (left_of bytes.now.items ending.left) (drop from bytes.now.items) status
         (count p3) cut)
         ending.settles ending.fresh result.0 result.1 }
+    ensures ending { settles_in result.1 ≡ ending.settles }
     ensures under { (h : Header) → LeavesFor result.1 h → WaitsFor ending.left h }
 {
     let left = bytes.len().saturating_sub(from);
@@ -191,6 +207,9 @@ pub(crate) fn judged<A: Application>(
         kept.now.items fresh.new.items result.1)
         × IsReady A.takes A.Does (A.standing application.new) (A.next application.new)
         kept.now.items fresh.new.items waiting result.1 }
+    ensures called { CallsAt A.Called (kind_in A.takes
+        (state_of (A.standing application.old) kept.now.items waiting) header p3) header p3
+        application.old (settles_in result.1) application.new }
     ensures invalid { ins_is_valid header.ins ≡ false → IsRefusal result.0 }
     ensures under { (h : Header) → LeavesFor result.1 h → MaySend A.takes h }
 {
@@ -245,6 +264,10 @@ pub(crate) fn took<A: Application>(
         fresh.new.items result.1)) }
     ensures fits { IsReady A.takes A.Does (A.standing application.new) (A.next application.new)
         kept.now.items fresh.new.items waiting result.1 }
+    ensures called { IsReceiving (prepared_of (A.standing application.old)
+        (A.next application.old) kept.now.items fresh.old.items ready) (λ ask.
+        CallsOnce A.Called application.old (taking ask.header content.now)
+        (settles_in result.1) application.new) }
     ensures under { (h : Header) → LeavesFor result.1 h → MaySend A.takes h }
 {
     let Ready::Receives { header, cut, .. } = ready else {

@@ -3,10 +3,11 @@ ghost use Rattle.std.specs.Prelude.{◌≡◌, ◌+◌, ◌≤◌, [], ◌++◌,
 ghost use Rattle.t1_core.specs.declared.applet.TheConstants.{RESPONSE_ROOM};
 ghost use Rattle.apdu_core.specs.declared.header.Header.{Header};
 ghost use Rattle.command_card.specs.AtT1.{HandsOut, Responds, DoesAt, shown, status_bytes, may_bring};
+ghost use Rattle.command_card.specs.Calls.{CallsFor};
 ghost use Rattle.command_card.specs.State.{Nothing_left};
 ghost use Rattle.command_card.specs.View.{WaitsFor, after_reset, left_of, state_of};
 
-use crate::answer::{announcing, carried_out, fetch_left, wipe_ended, word};
+use crate::answer::{announcing, carried_out, fetch_left, settle_if, wipe_ended, word};
 use crate::application::{Application, GET_RESPONSE};
 use crate::ready::Waiting;
 use apdu_core::{ApduFault, Command, Status};
@@ -43,6 +44,8 @@ impl<A: Application> Model for AppletOf<A> {
 }
 
 impl<A: Application> AppletOf<A> {
+    ghost use Rattle.std.specs.Prelude.{◌∷◌, []};
+    ghost use Rattle.command_card.specs.Calls.{AreMade, Was_reset};
     ghost use Rattle.command_card.specs.View.{applet_in};
 
     /// Makes the card of an application. Nothing is pending.
@@ -67,8 +70,9 @@ impl<A: Application> AppletOf<A> {
     /// Resets the card and its application, at any time between two commands. Nothing is pending
     /// afterwards.
     pub fn reset(&mut self)
-        ensures { applet_in A.standing self.new
+        ensures stands { applet_in A.standing self.new
             ≡ after_reset A.after_reset (applet_in A.standing self.old) }
+        ensures called { AreMade A.Called self.old.app (Was_reset ∷ []) self.new.app }
     {
         self.application.reset();
         wipe(&mut self.kept);
@@ -166,6 +170,8 @@ pub(crate) fn respond<A: Application>(
         (state_of (A.standing application.old) kept.old.items waiting)
         command.now response.new.items
         (state_of (A.standing application.new) kept.new.items result) }
+    ensures called { CallsFor A.Called (A.takes (A.standing application.old)) application.old
+        command.now application.new }
     ensures under { (h : Header) → WaitsFor result h → ⊥ }
     ensures room { vec_capacity response.old ≤ vec_capacity response.new }
 {
@@ -185,13 +191,13 @@ pub(crate) fn respond<A: Application>(
         return Waiting::Nothing;
     };
     let (status, settles) = carried_out(application, told, kept);
-    if settles {
-        application.settle();
-    }
+    settle_if(settles, application);
     hand_out(kept, 0, status, le, response)
 }
 
 impl<A: Application> Applet for AppletOf<A> {
+    ghost use Rattle.std.specs.Prelude.{◌≡◌, ◌<◌, ◌≤◌, ℕ, List, length, vec_capacity, MatchResult};
+    ghost use Rattle.command_card.specs.Calls.{CallsForBytes};
     ghost use Rattle.command_card.specs.State.{CardState};
     ghost use Rattle.command_card.specs.View.{applet_in};
 
@@ -207,11 +213,20 @@ impl<A: Application> Applet for AppletOf<A> {
 
     ghost Refuses = { λ s command. ⊥ };
 
-    fn carry_out(
-        &mut self,
-        command: &[u8],
-        response: &mut Vec<u8>,
-    ) -> Result<Requests, AllocError> {
+    fn carry_out(&mut self, command: &[u8], response: &mut Vec<u8>) -> Result<Requests, AllocError>
+        requires { RESPONSE_ROOM ≤ vec_capacity response.old }
+        ensures does { MatchResult result
+            (λ asks. DoesAt A.takes A.Does (applet_in A.standing self.old) (record {
+              command = command.now;
+              response = response.new.items;
+              asks = asks;
+            }) (applet_in A.standing self.new))
+            (λ _. (applet_in A.standing self.new ≡ applet_in A.standing self.old)
+            × (response.new.items ≡ response.old.items) × ⊥) }
+        ensures room { RESPONSE_ROOM ≤ vec_capacity response.new }
+        ensures called { CallsForBytes A.Called (A.takes (A.standing self.old.app)) self.old.app
+            command.now self.new.app }
+    {
         match Command::read(command) {
             Ok(command) => {
                 wipe(response);
@@ -231,7 +246,21 @@ impl<A: Application> Applet for AppletOf<A> {
     }
 
     #[tactic(auto, using(crate::proofs::AppletLemmas::too_long_does))]
-    fn too_long(&mut self, response: &mut Vec<u8>) -> Result<Requests, AllocError> {
+    fn too_long(&mut self, response: &mut Vec<u8>) -> Result<Requests, AllocError>
+        requires { RESPONSE_ROOM ≤ vec_capacity response.old }
+        ensures does { MatchResult result
+            (λ asks. (command : List ℕ) → 261 < length command
+            → DoesAt A.takes A.Does (applet_in A.standing self.old) (record {
+              command = command;
+              response = response.new.items;
+              asks = asks;
+            }) (applet_in A.standing self.new))
+            (λ _. (applet_in A.standing self.new ≡ applet_in A.standing self.old)
+            × (response.new.items ≡ response.old.items)
+            × ((command : List ℕ) → 261 < length command → ⊥)) }
+        ensures room { RESPONSE_ROOM ≤ vec_capacity response.new }
+        ensures called { self.new.app ≡ self.old.app }
+    {
         refuse(word(0x67, 0x00), response);
         Ok(Requests::default())
     }

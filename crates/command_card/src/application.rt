@@ -10,11 +10,12 @@ pub const OWN_RESPONSE_LIMIT: usize = 4_096;
 ///
 /// `carry_out` prepares a command. It takes effect at `settle`, once the status of its TPDU is
 /// sent; for a whole command, at once. A reset before that drops it. It is proved that each
-/// completed command takes effect once (law `each_command_at_most_once`). No clause counts the
-/// calls of `carry_out`: a second one is refused by the tests of given responses alone.
+/// completed command takes effect once (law `each_command_at_most_once`), and which calls each
+/// call of a card makes (clauses `called` of `CommandCard` and `AppletOf`).
 pub trait Application {
-    ghost use Rattle.std.specs.Prelude.{◌≡◌, [], Bool, IfOk, IfErr};
+    ghost use Rattle.std.specs.Prelude.{◌≡◌, ◌∷◌, List, [], Bool, IfOk, IfErr};
     ghost use Rattle.apdu_core.specs.declared.header.Header.{Header};
+    ghost use Rattle.command_card.specs.Calls.{AreMade, Call, Settled, Was_reset, carrying_out};
     ghost use Rattle.command_card.specs.Carrying.{Did, IsOwn, out_of_memory};
 
     /// The type of the application's states.
@@ -35,6 +36,11 @@ pub trait Application {
 
     /// The state after a reset.
     ghost after_reset: { State → State };
+
+    /// What is known of the calls so far, in order. A card learns of a call by its clause `called`
+    /// alone, so it makes exactly the calls that its own clauses list. An application need not
+    /// keep them.
+    ghost Called: { Self → List Call → Type 0 } = { λ _ _. Unit {0} };
 
     /// Whether data of the terminal follow this header (ISO/IEC 7816-3, 10.3.1: the header does not
     /// tell). If not, data may come from the card.
@@ -61,13 +67,17 @@ pub trait Application {
           status = status;
         }) (next self.new) × IsOwn status) }
         ensures failed { IfErr result (λ e. Does (standing self.old) (out_of_memory command.entry)
-            (standing self.old)) };
+            (standing self.old)) }
+        ensures called { AreMade Called self.old
+            (carrying_out command.entry response.new.items result ∷ []) self.new };
 
     /// The command that was carried out last takes effect.
     fn settle(&mut self)
-        ensures { standing self.new ≡ next self.old };
+        ensures stands { standing self.new ≡ next self.old }
+        ensures called { AreMade Called self.old (Settled ∷ []) self.new };
 
     /// Resets the application, at any time. A command that did not settle is dropped.
     fn reset(&mut self)
-        ensures { standing self.new ≡ after_reset (standing self.old) };
+        ensures stands { standing self.new ≡ after_reset (standing self.old) }
+        ensures called { AreMade Called self.old (Was_reset ∷ []) self.new };
 }

@@ -1,5 +1,5 @@
 //! The card that speaks T=0 for an application.
-use crate::answer::{buffer, judged, took, wipe_ended};
+use crate::answer::{buffer, judged, settle_if, took, wipe_ended};
 use crate::application::Application;
 use crate::ready::{Ready, Waiting};
 use apdu_core::{Header, Status, count};
@@ -73,11 +73,14 @@ impl<A: Application> CommandCard<A> {
 }
 
 impl<A: Application> TpduCard for CommandCard<A> {
-    ghost use Rattle.std.specs.Prelude.{◌≡◌, []};
-    ghost use Rattle.t0_core.specs.CardContract.{IsDecided};
-    ghost use Rattle.t0_core.specs.Meaning.{Decided, Nothing};
+    ghost use Rattle.std.specs.Prelude.{◌≡◌, ◌≤◌, ◌∷◌, [], length, false};
+    ghost use Rattle.apdu_core.specs.HeaderBytes.{ins_is_valid};
+    ghost use Rattle.t0_core.specs.CardContract.{IsDecided, IsRefusal, Judges, Permits};
+    ghost use Rattle.t0_core.specs.Meaning.{Decided, Decides, IsReceiving, IsSending, Nothing, answered_with, taken_with};
+    ghost use Rattle.command_card.specs.Calls.{AreMade, CallsAfter, CallsAt, CallsOnce, Was_reset, settles_in};
+    ghost use Rattle.command_card.specs.Carrying.{taking};
     ghost use Rattle.command_card.specs.State.{CardState};
-    ghost use Rattle.command_card.specs.Meaning.{Does};
+    ghost use Rattle.command_card.specs.Meaning.{Does, kind_in};
     ghost use Rattle.command_card.specs.View.{standing_in, prepared_in, after_reset, MayReceive, MaySend};
 
     ghost State = { CardState A.State };
@@ -94,7 +97,18 @@ impl<A: Application> TpduCard for CommandCard<A> {
 
     ghost prepared = { λ c. prepared_in A.standing A.next c };
 
-    fn header(&mut self, header: Header, p3: u8, cut: u16) -> Verdict {
+    fn header(&mut self, header: Header, p3: u8, cut: u16) -> Verdict
+        requires { (1 ≤ cut) × (cut ≤ 256) }
+        ensures stands { standing_in A.standing self.new ≡ standing_in A.standing self.old }
+        ensures judged { Judges (Does A.takes A.Does) (standing_in A.standing self.old)
+            (record { header = header; p3 = p3; cut = cut }) result
+            (prepared_in A.standing A.next self.new) }
+        ensures invalid { ins_is_valid header.ins ≡ false → IsRefusal result }
+        ensures permitted { Permits (MayReceive A.takes) (MaySend A.takes) header result }
+        ensures called { CallsAt A.Called
+            (kind_in A.takes (standing_in A.standing self.old) header p3) header p3
+            self.old.app (settles_in self.new.ready) self.new.app }
+    {
         let (verdict, ready) = judged(
             &mut self.application,
             &self.kept,
@@ -108,7 +122,17 @@ impl<A: Application> TpduCard for CommandCard<A> {
         verdict
     }
 
-    fn data(&mut self, content: &[u8]) -> Status {
+    fn data(&mut self, content: &[u8]) -> Status
+        requires { IsReceiving (prepared_in A.standing A.next self.old)
+            (λ ask. length content.now ≡ ask.p3) }
+        ensures stands { standing_in A.standing self.new ≡ standing_in A.standing self.old }
+        ensures decided { IsReceiving (prepared_in A.standing A.next self.old) (λ ask.
+            Decides (Does A.takes A.Does) (standing_in A.standing self.old) ask.cut
+            (taken_with ask content.now result) (prepared_in A.standing A.next self.new)) }
+        ensures called { IsReceiving (prepared_in A.standing A.next self.old) (λ ask.
+            CallsOnce A.Called self.old.app (taking ask.header content.now)
+            (settles_in self.new.ready) self.new.app) }
+    {
         let (status, ready) = took(
             &mut self.application,
             &self.kept,
@@ -145,7 +169,15 @@ impl<A: Application> TpduCard for CommandCard<A> {
         DataRun::Lent(&left[..most.min(left.len())])
     }
 
-    fn end_of_sending(&mut self) -> Status {
+    fn end_of_sending(&mut self) -> Status
+        requires { IsSending (prepared_in A.standing A.next self.old) (λ ask bytes. Unit {0}) }
+        ensures stands { standing_in A.standing self.new ≡ standing_in A.standing self.old }
+        ensures decided { IsSending (prepared_in A.standing A.next self.old) (λ ask bytes.
+            Decides (Does A.takes A.Does) (standing_in A.standing self.old) ask.cut
+            (answered_with ask bytes result) (prepared_in A.standing A.next self.new)) }
+        ensures called { (self.new.app ≡ self.old.app)
+            × (settles_in self.new.ready ≡ settles_in self.old.ready) }
+    {
         let ready = self.ready;
         let Ready::Sends { status, ending, .. } = ready else {
             unreachable!()
@@ -159,14 +191,13 @@ impl<A: Application> TpduCard for CommandCard<A> {
         ensures stands { (next : CardState A.State) → prepared_in A.standing A.next self.old
             ≡ Decided next → standing_in A.standing self.new ≡ next }
         ensures done { prepared_in A.standing A.next self.new ≡ Nothing }
+        ensures called { CallsAfter A.Called self.old.app (settles_in self.old.ready) self.new.app }
         ensures emptied { self.new.fresh ≡ [] }
     {
         let Ready::Leaves { ending } = self.ready else {
             unreachable!()
         };
-        if ending.settles {
-            self.application.settle();
-        }
+        settle_if(ending.settles, &mut self.application);
         if ending.fresh {
             swap(&mut self.kept, &mut self.fresh);
         }
@@ -180,6 +211,7 @@ impl<A: Application> TpduCard for CommandCard<A> {
         ensures stands { standing_in A.standing self.new
             ≡ after_reset A.after_reset (standing_in A.standing self.old) }
         ensures dropped { prepared_in A.standing A.next self.new ≡ Nothing }
+        ensures called { AreMade A.Called self.old.app (Was_reset ∷ []) self.new.app }
         ensures emptied { self.new.fresh ≡ [] }
     {
         self.application.reset();

@@ -1,5 +1,6 @@
 //! An application that changes at once. The card works on a copy of it.
-ghost use Rattle.std.specs.Prelude.{◌≡◌, [], None, IfOk, IfErr, OnErr};
+ghost use Rattle.std.specs.Prelude.{◌≡◌, ◌∷◌, [], None, IfOk, IfErr, OnErr};
+ghost use Rattle.command_card.specs.Calls.{AreMade, CallsCopy, Was_copied, Was_reset, carrying_out};
 ghost use Rattle.command_card.specs.Carrying.{Did, IsOwn, out_of_memory};
 
 use crate::application::Application;
@@ -9,9 +10,10 @@ use std::alloc::AllocError;
 /// An application that changes at once when it carries out a command. [`Copied`] makes an
 /// [`Application`] of it.
 pub trait Eager {
-    ghost use Rattle.std.specs.Prelude.{Bool};
+    ghost use Rattle.std.specs.Prelude.{Bool, List};
     ghost use Rattle.apdu_core.specs.declared.header.Header.{Header};
     ghost use Rattle.apdu_core.specs.CommandBytes.{Command};
+    ghost use Rattle.command_card.specs.Calls.{Call};
 
     /// The type of the application's states.
     ghost State: { Type 0 };
@@ -27,6 +29,9 @@ pub trait Eager {
 
     /// The state after a reset.
     ghost after_reset: { State → State };
+
+    /// What is known of the calls so far, as in `Application::Called`.
+    ghost Called: { Self → List Call → Type 0 } = { λ _ _. Unit {0} };
 
     /// Whether data of the terminal follow this header.
     fn takes_data(&self, header: Header) -> bool
@@ -50,20 +55,26 @@ pub trait Eager {
           status = status;
         }) (standing self.new) × IsOwn status) }
         ensures failed { IfErr result (λ e. Does (standing self.old) (out_of_memory command.entry)
-            (standing self.old)) };
+            (standing self.old)) }
+        ensures called { AreMade Called self.old
+            (carrying_out command.entry response.new.items result ∷ []) self.new };
 
     /// Copies the application.
     ///
     /// # Errors
     /// - `AllocError`: memory ran out; there is no copy, and the command is not carried out.
-    fn copy(&self) -> Result<Self, AllocError>
-        ensures done { IfOk result (λ copy. standing copy ≡ standing self.now) }
-        ensures failed { IfErr result (λ e. (c : Command) → Does (standing self.now)
-            (out_of_memory c) (standing self.now)) };
+    fn copy(&mut self) -> Result<Self, AllocError>
+        ensures stands { standing self.new ≡ standing self.old }
+        ensures done { IfOk result (λ copy. standing copy ≡ standing self.old) }
+        ensures failed { IfErr result (λ e. (c : Command) → Does (standing self.old)
+            (out_of_memory c) (standing self.old)) }
+        ensures called { AreMade Called self.old (Was_copied ∷ []) self.new }
+        ensures follows { IfOk result (AreMade Called self.old (Was_copied ∷ [])) };
 
     /// Resets the application, at any time.
     fn reset(&mut self)
-        ensures { standing self.new ≡ after_reset (standing self.old) };
+        ensures stands { standing self.new ≡ after_reset (standing self.old) }
+        ensures called { AreMade Called self.old (Was_reset ∷ []) self.new };
 }
 
 /// The application, and its copy after the command that has not settled.
@@ -117,7 +128,7 @@ impl<E: Eager + Drop> Application for Copied<E> {
         response: &mut Vec<u8>,
     ) -> Result<Status, AllocError>
         requires { response.old.items ≡ [] }
-        ensures stands { self.new.current ≡ self.old.current }
+        ensures stands { E.standing self.new.current ≡ E.standing self.old.current }
         ensures done { IfOk result (λ status. E.Does (E.standing self.old.current) (record {
           command = command.entry;
           response = response.new.items;
@@ -126,6 +137,8 @@ impl<E: Eager + Drop> Application for Copied<E> {
         ensures failed { IfErr result (λ e. E.Does (E.standing self.old.current)
             (out_of_memory command.entry) (E.standing self.old.current)) }
         ensures dropped { OnErr result (self.new.changed ≡ None) }
+        ensures copied { CallsCopy E.Called self.old.current command.entry self.new.current
+            self.new.changed }
     {
         self.changed = None;
         let mut copy = self.current.copy()?;

@@ -11,7 +11,7 @@ ghost use Rattle.t0_core.specs.Meaning.{Prepared};
 ghost use Rattle.command_card.specs.Given.{Answers, GivenState, after_drop, takes_data};
 ghost use Rattle.command_card.specs.Giving.{Giving, Lends};
 ghost use Rattle.command_card.specs.Settling.{AnswersBy, ComesOf};
-ghost use Rattle.command_card.specs.Lending.{Happening, LeadsLent, Lent, On_line, line_of};
+ghost use Rattle.command_card.specs.Lending.{AreLent, Happening, LeadsLent, Lent, On_line, all_lent, line_of};
 ghost use Rattle.command_card.specs.Meaning.{Does};
 ghost use Rattle.command_card.specs.State.{CardState, Nothing_left};
 ghost use Rattle.command_card.specs.View.{after_reset};
@@ -75,4 +75,14 @@ pub fn each_response_goes_out_once()
         first.left ≡ Nothing_left → first.app.given ≡ None →
         LeadsLent (Does takes_data (AnswersBy true)) (after_reset after_drop) Lends first hs last
         prepared stage → ComesOf true first.app hs last.app }
+{}
+
+/// The same by whole commands and at T=1, where no character moves and nothing is in progress: all
+/// that happens is done to the card. Each command that the application carries out gets the
+/// response that was given last, and settles. None is `6581`.
+pub fn each_response_goes_out_at_rest()
+    ensures { (first last : CardState GivenState) (ks : List Giving) →
+        first.left ≡ Nothing_left → first.app.given ≡ None →
+        AreLent Lends [] first (all_lent ks) last →
+        ComesOf true first.app (all_lent ks) last.app }
 {}

@@ -3,7 +3,8 @@
 use crate::counter::Counter;
 use crate::good_line::GoodLine;
 use apdu_core::{Command, Header};
-use card_terminal::{Answers, Op, Session};
+use as_called::OverT0;
+use card_terminal::{Answers, Op};
 use command_card::{AppletOf, CommandCard, Copied};
 use object_card::{Aid, CardBuilder, DataCard, ObjectCard};
 use std::alloc::{AllocGlobal, Global};
@@ -101,12 +102,12 @@ fn an_application_over_t1(rt: HostRuntime) {
 }
 
 #[test]
-fn an_application_in_a_session(rt: HostRuntime) {
+fn an_application_at_t0(rt: HostRuntime) {
     let none: &[Plan] = &[];
     let command = Command::new(COUNT, &[], Some(256)).expect(&rt, "a command");
-    let mut session = Session::new(counter(rt.alloc()));
-    let answer = session
-        .transmit(rt.alloc(), command, &mut Plans::over(none), &mut Silent)
+    let mut card = OverT0::new(counter(rt.alloc()));
+    let answer = card
+        .send(rt.alloc(), command, &mut Plans::over(none), &mut Silent)
         .expect(&rt, "an answer");
     assert!(rt; answer.data().len() == 3);
 }

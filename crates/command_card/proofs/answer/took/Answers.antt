@@ -5,6 +5,7 @@ use Rattle.t0_core.specs.Meaning.{IsReceiving, Decides, taken_with}
 use Rattle.command_card.specs.declared.ready.Ending.{Ending}
 use Rattle.command_card.specs.declared.ready.Ready.{Ready}
 use Rattle.command_card.specs.declared.ready.Ready.TheVariants as ready
+use Rattle.command_card.specs.Calls.{CallsOnce}
 use Rattle.command_card.specs.Carrying.{Makes, taking}
 use Rattle.command_card.specs.Meaning.{Does}
 use Rattle.command_card.specs.View.{state_of, prepared_of, IsReady}
@@ -46,3 +47,20 @@ returns-clause-decided g c =
     out.ensures.stands fits.0 long (subst M command_is out.ensures.makes)
     (c.announcing.ensures fresh has)
     (c.fetch_left.ensures.left fresh has))
+
+pub returns-clause-called : goal.returns-clause-called
+returns-clause-called g c =
+    let a = g.A.Application in
+    let now = c.args.application.now in
+    let out = c.carried_out-status in
+    let r = c.in-Receives in
+    let content = c.args.content.now in
+    let command_is : c.unwrap-command.result ≡ taking r.header content =
+    made_is c.new.result _ (taking r.header content) c.unwrap-command.result
+    c.new.ensures c.unwrap-command.ensures in
+    let K : Ready → Type 0 = λ x. IsReceiving (prepared_of (a.standing now) (a.next now)
+    c.args.kept.now.items c.args.fresh.now.items x) (λ ask.
+    CallsOnce a.Called now (taking ask.header content) out.result.1 out.new.application) in
+    subst K (sym r.is)
+    (subst (λ (m : Command). CallsOnce a.Called now m out.result.1 out.new.application)
+    command_is out.ensures.called)

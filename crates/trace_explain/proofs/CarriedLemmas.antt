@@ -119,6 +119,7 @@ exchanged_none bad.Length loose command answer (four, short, none) other =
     exchanged_by loose command answer none
 exchanged_none bad.NoStatus loose command answer ((c, is), none) other = rw (is, none) refl
 exchanged_none bad.TooMany loose command answer (c, is, ok, many) other = rw (is, ok, many) refl
+exchanged_none bad.Unasked loose command answer h other = absurd h
 exchanged_none bad.OutOfMemory loose command answer h other =
     absurd (let bad : false ≡ true = other in cc)
 

@@ -32,6 +32,7 @@ within_byte : (is_short : Bool) (bytes : List ℕ) (high low byte : ℕ) (rest :
     ≡ spelled_from is_short (bytes ++ byte ∷ []) Behind rest
 within_byte is_short bytes high low byte rest is =
     let (one, other) = are_some (hex_digit_value high) (hex_digit_value low) byte is in
+    let short : Bool = is_short && (length rest == 0) in
     let on : Bool → Option ℕ → Bool → Option (List ℕ) = λ x o s.
     if x then spelled_from is_short bytes Bound rest else elim o [
       | None ↦ None
@@ -39,11 +40,11 @@ within_byte is_short bytes high low byte rest is =
     ] in
     let two : Option ℕ = byte_of (hex_digit_value high) (hex_digit_value low) in
     let at : Bool → Option ℕ = λ v. if v then hex_digit_value high else two in
-    ap (λ v. on ((high == 48) && v) (byte_at is_short high low) (low == 32))
+    ap (λ v. on ((high == 48) && v) (byte_at short high low) (low == 32))
     (differs low 120 other refl)
-    ∙ ap (λ v. on v (byte_at is_short high low) (low == 32)) (and_false (high == 48))
-    ∙ ap (λ v. on false (at (is_short && v)) v) (differs low 32 other refl)
-    ∙ ap (λ v. on false (at v) false) (and_false is_short)
+    ∙ ap (λ v. on v (byte_at short high low) (low == 32)) (and_false (high == 48))
+    ∙ ap (λ v. on false (at (short && v)) v) (differs low 32 other refl)
+    ∙ ap (λ v. on false (at v) false) (and_false short)
     ∙ ap (λ o. on false o false) is
 
 pair_spelled : (spot : Spot) (high low byte : ℕ) (rest : List ℕ) → begins spot ≡ true

@@ -64,7 +64,7 @@ left_of from left = if left == 0 then going.Nothing else going.Dump from left
 
 abbrev pub opens : End → Marked → Open
 opens from m = if nat_lt 0 m.count then going.Dump from m.count
-    else line_if (m.goes_on && (length m.bytes == 16)) from
+    else line_if (nat_lt 0 m.goes_on && (m.goes_on == length m.bytes)) from
 
 -- The state of a log between two lines: what the next one may continue, with its bytes so far and
 -- those behind them. If the last command has no answer yet, that too. And whether the last line has

@@ -1,5 +1,5 @@
 -- A command and its answer in a log of PC/SC, and the TPDU that they are.
-use Rattle.std.specs.Prelude.{◌≡◌, ◌≤◌, ◌<◌, ℕ, ◌+◌, ◌-◌, List, [], ◌∷◌, ◌++◌, take, drop, length, slice_index, Option, Some, None, Bool, true, false, ◌==◌, ◌&&◌, nat_le, nat_lt, if◌then◌else◌}
+use Rattle.std.specs.Prelude.{◌≡◌, ◌≤◌, ◌<◌, ℕ, ◌+◌, ◌-◌, List, [], ◌∷◌, ◌++◌, take, drop, length, slice_index, Option, Some, None, Bool, true, false, ◌==◌, ◌&&◌, ◌||◌, not, nat_le, nat_lt, if◌then◌else◌}
 use Rattle.apdu_core.specs.StatusWord.{count}
 use Rattle.t0_core.specs.declared.direction.Direction.{Direction}
 use Rattle.t0_core.specs.declared.direction.Direction.TheVariants.{ToCard, FromCard}
@@ -8,6 +8,7 @@ use Rattle.trace_explain.specs.declared.follow.pair.PairFault.TheVariants as bad
 use Rattle.trace_explain.specs.declared.follow.tpdu.Tpdu.{Tpdu}
 use Rattle.trace_explain.specs.Noted.{are_status}
 use Rattle.trace_explain.specs.Reports.{uncounted}
+use Rattle.trace_explain.specs.Secrets.{brings_none}
 
 -- A short command (ISO/IEC 7816-4, 5.1): CLA INS P1 P2 P3, the terminal's data, and perhaps Le.
 pub record Command : Type 0 where
@@ -82,6 +83,17 @@ abbrev pub asks_for : Option ℕ → ℕ → Bool
 asks_for None came = true
 asks_for (Some le) came = nat_le came (count le)
 
+-- The length fields and data of a short command have Le: alone, or behind the data.
+abbrev pub has_le : List ℕ → Bool
+has_le [] = false
+has_le (p3 ∷ rest) = (length rest == 0) || nat_lt p3 (length rest)
+
+-- In a log: the answer has data, and the command neither has Le nor ever brings any.
+abbrev pub is_unasked : List ℕ → List ℕ → Bool
+is_unasked (cla ∷ ins ∷ p1 ∷ p2 ∷ lengths) answer =
+    nat_lt 2 (length answer) && not (has_le lengths) && brings_none cla ins
+is_unasked other answer = false
+
 -- The TPDU of a command with its answer, which has no more data than Le asks for.
 abbrev pub IsPair : List ℕ → List ℕ → Tpdu → Type 0
 IsPair command answer t = (c : Command) × (command_in command ≡ Some c)
@@ -102,6 +114,7 @@ IsBadCommand bad.Length command =
     (4 ≤ length command) × (is_extended command ≡ false) × (command_in command ≡ None)
 IsBadCommand bad.NoStatus command = ⊥
 IsBadCommand bad.TooMany command = ⊥
+IsBadCommand bad.Unasked command = ⊥
 IsBadCommand bad.OutOfMemory command = Unit {0}
 
 abbrev pub IsBadRest : PairFault → List ℕ → ℕ → List ℕ → Type 0

@@ -44,7 +44,8 @@ begins Behind = true
 begins other = false
 
 -- The bytes that digits spell: any spaces between them, or right behind a byte a comma or a colon;
--- `0x` may precede a byte. These bytes precede them.
+-- `0x` may precede a byte. If it is short, the last one may have one digit and a space. These bytes
+-- precede them.
 abbrev pub spelled_from : Bool → List ℕ → Spot → List ℕ → Option (List ℕ)
 spelled_from is_short bytes Between [] = Some bytes
 spelled_from is_short bytes Behind [] = Some bytes
@@ -52,7 +53,7 @@ spelled_from is_short bytes Bound [] = None
 spelled_from is_short bytes (Within high) [] = None
 spelled_from is_short bytes (Within high) (b ∷ rest) =
     if (high == 48) && (b == 120) then spelled_from is_short bytes Bound rest
-    else elim (byte_at is_short high b) [
+    else elim (byte_at (is_short && (length rest == 0)) high b) [
       | None ↦ None
       | Some byte ↦ spelled_from is_short (bytes ++ byte ∷ []) (next_spot (Within high) b) rest
     ]
@@ -174,7 +175,7 @@ behind (part.Count stop) left line = Some (behind_field stop line)
 behind part.Row left line = if left == 0 then None else behind_row (row left) line
 behind part.Zeros left line = some_if (nat_lt 0 left) line
 behind (part.Skip count) left line = behind_row count line
-behind part.More left line = Some line
+behind (part.More count) left line = Some line
 
 abbrev pub begun : List Part → List ℕ → Option (List ℕ)
 begun [] line = Some line
@@ -184,12 +185,12 @@ begun (part ∷ parts) line = elim (behind part 0 line) [
 ]
 
 -- What parts mark: bytes, and those behind them, as a status; how many bytes the next lines have;
--- and whether the next line may continue these bytes.
+-- and with how many bytes the next line may continue these, or 0.
 pub record Marked : Type 0 where
   pub bytes : List ℕ
   pub status : List ℕ
   pub count : ℕ
-  pub goes_on : Bool
+  pub goes_on : ℕ
 
 abbrev pub marked_by : Marks → Marked
 marked_by m = record {
@@ -200,7 +201,7 @@ marked_by m = record {
 }
 
 abbrev pub unmarked : Marked
-unmarked = record { bytes = []; status = []; count = 0; goes_on = false }
+unmarked = record { bytes = []; status = []; count = 0; goes_on = 0 }
 
 -- These, and what the field of a part spells.
 abbrev pub with_bytes : Marked → Option (List ℕ) → Option Marked
@@ -222,7 +223,7 @@ marked part.Row left line m = with_bytes m (row_in (row left) line)
 marked part.Zeros left line m = with_bytes m (Some (replicate left 0))
 marked (part.Status stop) left line m = with_status m (spelled false (field stop line))
 marked (part.Count stop) left line m = with_count m (number_in (field stop line))
-marked part.More left line m = Some (record m { goes_on = true })
+marked (part.More count) left line m = Some (record m { goes_on = count })
 marked other left line m = Some m
 
 -- All bytes that are marked, in turn.

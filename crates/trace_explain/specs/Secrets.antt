@@ -9,7 +9,7 @@ use Rattle.tlv_core.specs.TagForm.{is_constructed}
 use Rattle.trace_explain.specs.declared.describe.mask.Origin.{Origin}
 use Rattle.trace_explain.specs.declared.describe.mask.Shown.{Shown}
 use Rattle.trace_explain.specs.declared.describe.mask.Shown.TheVariants.{All, Objects, Nothing}
-use Rattle.trace_explain.specs.WaysOf.{is_among}
+use Rattle.trace_explain.specs.WaysOf.{interindustry_brings_none, is_among, sim_brings_none}
 
 -- Reference data: VERIFY, CHANGE REFERENCE DATA, DISABLE and ENABLE VERIFICATION REQUIREMENT, and
 -- RESET RETRY COUNTER. Keys: PUT KEY of GlobalPlatform. Of any class, with data of any form.
@@ -41,6 +41,12 @@ may_be_cut h = if is_among h.ins (0x0E ∷ 0xB0 ∷ 0xD0 ∷ 0xD6 ∷ [])
 abbrev pub has_messaging : ℕ → Bool
 has_messaging cla = (nat_lt 0x03 cla && nat_lt cla 0x10) || (nat_lt 0x13 cla && nat_lt cla 0x20)
     || (nat_lt 0x5F cla && nat_lt cla 0x80)
+
+-- The answer to this CLA and INS never has data.
+abbrev pub brings_none : ℕ → ℕ → Bool
+brings_none cla ins = if nat_lt cla 0x80
+    then not (has_messaging cla) && is_among ins interindustry_brings_none
+    else (cla == 0xA0) && is_among ins sim_brings_none
 
 -- SELECT has a name or a path, without secure messaging
 abbrev pub is_name : Header → Direction → Bool

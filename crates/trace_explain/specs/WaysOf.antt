@@ -53,6 +53,17 @@ own_way cla ins = if nat_lt cla 0x80 then interindustry ins
     else if nat_lt cla 0x90 then proprietary ins
     else if cla == 0xA0 then sim ins else None
 
+-- Instructions whose answer never has data: they erase, write, update, create, delete, verify or
+-- switch (ISO/IEC 7816-4, 7, and 7816-9, without secure messaging). A SIM card has some, too.
+abbrev pub interindustry_brings_none : List ℕ
+interindustry_brings_none = 0x04 ∷ 0x0C ∷ 0x0E ∷ 0x0F ∷ 0x20 ∷ 0x21 ∷ 0x22 ∷ 0x24 ∷ 0x26 ∷ 0x28
+    ∷ 0x2C ∷ 0x44 ∷ 0xD0 ∷ 0xD1 ∷ 0xD2 ∷ 0xD6 ∷ 0xD7 ∷ 0xDA ∷ 0xDB ∷ 0xDC ∷ 0xDD ∷ 0xE0 ∷ 0xE2
+    ∷ 0xE4 ∷ 0xE6 ∷ 0xE8 ∷ 0xFE ∷ []
+
+abbrev pub sim_brings_none : List ℕ
+sim_brings_none = 0x04 ∷ 0x10 ∷ 0x14 ∷ 0x20 ∷ 0x24 ∷ 0x26 ∷ 0x28 ∷ 0x2C ∷ 0x44 ∷ 0xD6 ∷ 0xDC
+    ∷ 0xFA ∷ []
+
 -- The way in a row of the program's table.
 abbrev pub way_in : {N P : Type 0} → Option (N × Direction × P) → Option Direction
 way_in None = None

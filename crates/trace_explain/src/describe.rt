@@ -2,6 +2,7 @@
 pub mod block_words;
 pub mod clock;
 pub mod complaint;
+pub mod file_names;
 pub mod format;
 pub mod mask;
 pub mod meaning;

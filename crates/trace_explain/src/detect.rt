@@ -8,6 +8,7 @@ use crate::read::form_row::{Found, Rows, Saying, read_rows};
 use crate::read::forms::{FORMS, Forms, FormsFault};
 use crate::read::reading::{Options, Reading};
 use crate::read::time::cut_time;
+use crate::read::trace_line::LineFault;
 use crate::write::layout::{Layout, Medium};
 use std::alloc::{AllocError, Global};
 use std::io::Read;
@@ -76,7 +77,8 @@ pub fn forms_of(
 }
 
 /// Returns the forms of whole commands that read most of these lines, `least` or more, and refuse
-/// at most one command or answer for each `FEW` lines; any number if `least` is 0.
+/// at most one command or answer for each `FEW` lines; any number if `least` is 0. If they read
+/// more than `least`, a line may also end what they read.
 fn refusing_few(
     alloc: Global,
     options: &Options<'_>,
@@ -94,7 +96,8 @@ fn refusing_few(
             let reading = tried.reading(alloc, forms)?;
             let count = lines_read(alloc, &reading.rows, whole_lines(head))?;
             let few = if least == 0 { count } else { count / FEW };
-            if count >= most && refuses_few(alloc, reading, head, few) {
+            let is_more = count > least;
+            if count >= most && refuses_few(alloc, reading, head, few, is_more) {
                 if count > most {
                     found.clear();
                 }
@@ -106,10 +109,14 @@ fn refusing_few(
     Ok(found)
 }
 
-/// Whether commands or answers are all that is refused of these lines, and at most `few`.
-fn refuses_few(alloc: Global, reading: Reading, head: &[u8], few: usize) -> bool {
+/// Whether commands or answers are all that is refused of these lines, and at most `few`. Or, if
+/// `may_end`, a line that shows that bytes before it are lost or of another reader.
+fn refuses_few(alloc: Global, reading: Reading, head: &[u8], few: usize, may_end: bool) -> bool {
     match outcome_of(alloc, reading, head) {
         Err(ExplainFault::BadPairs { complaints, .. }) => complaints <= few as u64,
+        Err(ExplainFault::BadLine { why, .. }) => {
+            may_end && matches!(why, LineFault::Loose | LineFault::Mixed)
+        }
         _ => false,
     }
 }

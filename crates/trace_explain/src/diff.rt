@@ -8,6 +8,7 @@ use crate::explainer::Explainer;
 use crate::follow::tpdu::Tpdu;
 use crate::read::forms::FormsFault;
 use crate::read::reading::Reading;
+use crate::read::wide;
 use crate::write::kept::Kept;
 use crate::write::layout::Layout;
 use crate::write::output::Output;
@@ -48,7 +49,9 @@ impl fmt::Debug for DiffFault {
 struct Trace<'r, R: Read> {
     /// `A` or `B`.
     name: &'static str,
+    alloc: Global,
     reader: &'r mut R,
+    has_begun: bool,
     explainer: Explainer,
     size: usize,
     line: Vec<u8>,
@@ -251,7 +254,9 @@ impl<'r, R: Read> Trace<'r, R> {
         explainer.teller.keeping.is_on = true;
         Trace {
             name,
+            alloc,
             reader,
+            has_begun: false,
             explainer,
             size: 0,
             line: Vec::new(alloc),
@@ -305,8 +310,16 @@ impl<'r, R: Read> Trace<'r, R> {
         self.explainer.end()
     }
 
-    /// Explains the lines that end in one more chunk. Returns false at the end of the trace.
+    /// Explains the lines that end in one more chunk. In UTF-16 the first one is all of the trace.
+    /// Returns false at the end of the trace.
     fn read_chunk(&mut self) -> Result<bool, ExplainFault> {
+        if !self.has_begun {
+            self.has_begun = true;
+            let head = wide::begin(self.alloc, self.reader)?;
+            self.size = head.len();
+            explain_chunk(&mut self.explainer, head.as_slice(), &mut self.line)?;
+            return Ok(true);
+        }
         let mut chunk = [0; CHUNK];
         match self.reader.read(&mut chunk) {
             Ok(0) => {

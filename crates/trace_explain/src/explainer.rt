@@ -20,6 +20,7 @@ use crate::follow::pair::are_characters;
 use crate::follow::preface::Preface;
 use crate::follow::tpdu::Mark;
 use crate::follow::turn::{TurnFault, turn_before, turn_within};
+use crate::read::channels::Channels;
 use crate::read::entry::{Entry, Source};
 use crate::read::log::Log;
 use crate::read::reading::Reading;
@@ -48,6 +49,7 @@ pub struct Explainer {
     preface: Preface,
     listener: Listener,
     log: Log,
+    channels: Channels,
     /// What prints the explanation.
     pub teller: Teller,
     /// An empty list, whose memory the entries of the next line of a log take.
@@ -84,6 +86,7 @@ impl Explainer {
             preface: Preface::new(alloc, first_edc),
             listener: Listener::new(alloc),
             log: Log::new(alloc),
+            channels: Channels::new(alloc),
             teller: Teller::new(alloc, layout, title, mask),
             entries: Vec::new(alloc),
         }
@@ -381,6 +384,11 @@ impl Explainer {
         ensures counts { OnOk result (self.new.line ≡ self.old.line) }
         ensures of_lines { IfErr result IsOfLines }
     {
+        let is_open = self.log.is_open();
+        let mixes = self.channels.mixes(&self.reading.rows, is_open, line)?;
+        if mixes {
+            return Err(refused(self.line, LineFault::Mixed));
+        }
         let mut entries = mem::replace(&mut self.entries, Vec::new(self.alloc));
         let taken = self.log.take(&self.reading.rows, line, &mut entries);
         self.has_characters = self.has_characters || self.log.has_begun();

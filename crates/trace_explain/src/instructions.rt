@@ -1,7 +1,7 @@
 //! The instructions that the program knows: one table for names, ways of data, P1-P2 and secrets.
 ghost use Rattle.std.specs.Prelude.{◌≡◌};
-ghost use Rattle.trace_explain.specs.Secrets.{has_messaging, is_secret};
-ghost use Rattle.trace_explain.specs.WaysOf.{by_standard, everywhere, interindustry, own_way, proprietary, sim, way_in};
+ghost use Rattle.trace_explain.specs.Secrets.{brings_none, has_messaging, is_secret};
+ghost use Rattle.trace_explain.specs.WaysOf.{by_standard, everywhere, interindustry, interindustry_brings_none, is_among, own_way, proprietary, sim, sim_brings_none, way_in};
 
 use crate::instructions::Parts::{
     Channel, Cryptogram, Object, Others, Place, Records, Reference, Selected,
@@ -48,6 +48,16 @@ pub fn instruction(cla: u8, ins: u8) -> Option<Instruction>
     match of_class(cla, ins) {
         None => everywhere(ins),
         own => own,
+    }
+}
+
+/// Returns the name of a command. P1 tells STATUS of a UICC (ETSI TS 102 221, 11.1.2) from GET
+/// STATUS (GlobalPlatform Card Specification 2.3, 11.4).
+pub fn name_of_command(header: Header) -> Option<&'static str> {
+    match (header.cla, header.ins, header.p1) {
+        (0x80..=0x8F, 0xF2, 0x00..=0x02) => Some("STATUS"),
+        (0x80..=0x8F, 0xF2, 0x10 | 0x20 | 0x40 | 0x80) => Some("GET STATUS"),
+        (cla, ins, _) => instruction(cla, ins).map(|(name, ..)| name),
     }
 }
 
@@ -198,6 +208,63 @@ pub fn is_secret(ins: u8) -> bool
     matches!(
         ins,
         0x20 | 0x21 | 0x24 | 0x25 | 0x26 | 0x28 | 0x2C | 0x2D | 0xD8
+    )
+}
+
+/// Whether the answer to this CLA and INS never has data: these write, erase, create, delete,
+/// verify or switch (ISO/IEC 7816-4 and 7816-9; 3GPP TS 51.011). With secure messaging it may.
+pub fn brings_none(cla: u8, ins: u8) -> bool
+    ensures { result ≡ brings_none cla ins }
+{
+    match cla {
+        0x00..=0x7F => !has_messaging(cla) && interindustry_brings_none(ins),
+        SIM_CLASS => sim_brings_none(ins),
+        _ => false,
+    }
+}
+
+/// The same of an interindustry class without secure messaging.
+fn interindustry_brings_none(ins: u8) -> bool
+    ensures { result ≡ is_among ins interindustry_brings_none }
+{
+    matches!(
+        ins,
+        0x04 | 0x0C
+            | 0x0E
+            | 0x0F
+            | 0x20
+            | 0x21
+            | 0x22
+            | 0x24
+            | 0x26
+            | 0x28
+            | 0x2C
+            | 0x44
+            | 0xD0
+            | 0xD1
+            | 0xD2
+            | 0xD6
+            | 0xD7
+            | 0xDA
+            | 0xDB
+            | 0xDC
+            | 0xDD
+            | 0xE0
+            | 0xE2
+            | 0xE4
+            | 0xE6
+            | 0xE8
+            | 0xFE
+    )
+}
+
+/// The same of a SIM card's class.
+fn sim_brings_none(ins: u8) -> bool
+    ensures { result ≡ is_among ins sim_brings_none }
+{
+    matches!(
+        ins,
+        0x04 | 0x10 | 0x14 | 0x20 | 0x24 | 0x26 | 0x28 | 0x2C | 0x44 | 0xD6 | 0xDC | 0xFA
     )
 }
 

@@ -13,6 +13,7 @@ use crate::help;
 use crate::read::files::{FileFault, FileList, joined};
 use crate::read::forms::{FORMS, Forms, FormsFault};
 use crate::read::reading::{Options, Reading};
+use crate::read::wide;
 use crate::write::sink::Sink;
 use clap::Error;
 use clap::error::ErrorKind;
@@ -92,11 +93,10 @@ fn explained<D: Files, R: Read, W: Write, F: Write>(
 ) -> u8
     ensures status { result ≤ 2 }
 {
-    let none = FileList::none(alloc);
     match asked.path() {
-        Some("-") => explained_by(alloc, asked, files, &none, input, output, faults),
+        Some("-") => explained_one(alloc, asked, files, input, output, faults),
         Some(path) => match File::open(files, path) {
-            Ok(mut file) => explained_by(alloc, asked, files, &none, &mut file, output, faults),
+            Ok(mut file) => explained_one(alloc, asked, files, &mut file, output, faults),
             Err(_) => print_fault(&FileFault::Open(path), faults),
         },
         None => match joined(alloc, asked.paths.as_slice(), files, input) {
@@ -106,6 +106,27 @@ fn explained<D: Files, R: Read, W: Write, F: Write>(
             }
             Err(fault) => print_fault(&fault, faults),
         },
+    }
+}
+
+/// Explains the trace of one file, perhaps in UTF-16. Returns the exit status.
+fn explained_one<D: Files, R: Read, W: Write, F: Write>(
+    alloc: Global,
+    asked: Request<'_>,
+    files: &D,
+    input: &mut R,
+    output: &mut W,
+    faults: &mut F,
+) -> u8
+    ensures status { result ≤ 2 }
+{
+    let none = FileList::none(alloc);
+    match wide::begin(alloc, input) {
+        Ok(begun) => {
+            let mut whole = begun.as_slice().chain(input);
+            explained_by(alloc, asked, files, &none, &mut whole, output, faults)
+        }
+        Err(_) => print_fault(&ExplainFault::OutOfMemory, faults),
     }
 }
 

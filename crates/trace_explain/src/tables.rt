@@ -10,7 +10,9 @@ pub const TAGS: &str = "\
 # FORMAT: b bytes, t a template, n a number in decimal digits, n3 the last three of these,
 #   cn digits with F behind them, an text, date YYMMDD, time HHMMSS, uint a binary number,
 #   aid an application identifier, cvm a list of cardholder verification methods, fd a file
-#   descriptor, sfi a short EF identifier in bits 8 to 4; or =SET, a set of bits.
+#   descriptor, sfi a short EF identifier in bits 8 to 4, file a file identifier, status a status
+#   word, toolkit a command of the card, afl a list of records, dol tags with sizes; or =SET, a
+#   set of bits.
 #
 # ISO/IEC 7816-4: interindustry data objects and templates
 tag 41 * * b country code and national data
@@ -49,7 +51,7 @@ tag 7D . * t secure messaging template
 tag 80 62,64,6F 1-4 uint bytes of data in the file
 tag 81 62,64,6F 2-4 uint bytes of the whole file
 tag 82 62,64,6F 1-6 fd file descriptor
-tag 83 62,64,6F 2 b file identifier
+tag 83 62,64,6F 2 file file identifier
 tag 84 62,64,6F 1-16 aid DF name
 tag 85 62,64,6F * b proprietary information
 tag 86 62,64,6F * b security attribute, proprietary
@@ -77,6 +79,22 @@ tag 83 62A5 * uint bytes of memory available
 tag 83 C6 1 b key reference
 tag 90 C6 1-4 b PIN status
 tag 95 C6 1 b usage qualifier
+#
+# ISO/IEC 7816-4: secure messaging
+tag 87 . * b padding indicator and cryptogram
+tag 8E . 4-8 b cryptographic checksum
+tag 97 . 1-2 b Le
+tag 99 . 2 status processing status
+#
+# ETSI TS 102 223: commands of the card, and envelopes for it
+tag D0 . * toolkit proactive command
+tag D1 . * b SMS-PP download
+tag D2 . * b cell broadcast download
+tag D3 . * b menu selection
+tag D4 . * b call control
+tag D5 . * b MO short message control
+tag D6 . * b event download
+tag D7 . * b timer expiration
 #
 # ISO/IEC 7816-8: certificates that cards verify
 tag 42 7F4E * an certification authority reference
@@ -121,16 +139,16 @@ tag 82 77 2 =aip AIP
 tag 86 71,72 1-261 b issuer script command
 tag 87 61,6FA5,BF0C61 1 =priority application priority indicator
 tag 88 6FA5 1 uint directory SFI
-tag 8C 70,77 1-252 b CDOL1
-tag 8D 70,77 1-252 b CDOL2
+tag 8C 70,77 1-252 dol CDOL1
+tag 8D 70,77 1-252 dol CDOL2
 tag 8E 70,77 10-252 cvm CVM list
 tag 8F 70,77 1 b CA public key index
 tag 90 70,77 64-248 b issuer public key certificate
 tag 92 70,77 1-248 b issuer public key remainder
 tag 93 70,77 64-248 b signed static application data
-tag 94 77 4-252 b AFL
+tag 94 77 4-252 afl AFL
 tag 95 .,70,77 5 =tvr TVR
-tag 97 70,77 1-252 b TDOL
+tag 97 70,77 1-252 dol TDOL
 tag 9A .,70,77 3 date transaction date
 tag 9B .,70,77 2 =tsi TSI
 tag 9C .,70,77 1 n transaction type
@@ -182,7 +200,7 @@ tag 9F34 * 3 =cvm CVM results
 tag 9F35 * 1 b terminal type
 tag 9F36 * 2 uint ATC
 tag 9F37 * 4 b unpredictable number
-tag 9F38 * 1-252 b PDOL
+tag 9F38 * 1-252 dol PDOL
 tag 9F39 * 1 b POS entry mode
 tag 9F3A * 4 uint amount in the reference currency
 tag 9F3B * 2-8 b application reference currency
@@ -198,13 +216,13 @@ tag 9F46 * 64-248 b ICC public key certificate
 tag 9F47 * 1 b ICC public key exponent
 tag 9F47 * 3 b ICC public key exponent
 tag 9F48 * 1-248 b ICC public key remainder
-tag 9F49 * 1-252 b DDOL
+tag 9F49 * 1-252 dol DDOL
 tag 9F4A * * b static data authentication tags
 tag 9F4B * 64-248 b signed dynamic application data
 tag 9F4C * 2-8 b ICC dynamic number
 tag 9F4D * 2 b log entry
 tag 9F4E * * an merchant name and location
-tag 9F4F * * b log format
+tag 9F4F * * dol log format
 #
 # EMV Contactless, Book C-3
 tag 9F66 * 4 =ttq TTQ
@@ -479,4 +497,36 @@ bit life 1 FF=03 initialisation
 bit life 1 FD=05 operational, activated
 bit life 1 FD=04 operational, deactivated
 bit life 1 FC=0C terminated
+# ETSI TS 102 223, 9.4: commands of the card
+bit toolkit 4 FF=01 REFRESH
+bit toolkit 4 FF=02 MORE TIME
+bit toolkit 4 FF=03 POLL INTERVAL
+bit toolkit 4 FF=04 POLLING OFF
+bit toolkit 4 FF=05 SET UP EVENT LIST
+bit toolkit 4 FF=10 SET UP CALL
+bit toolkit 4 FF=11 SEND SS
+bit toolkit 4 FF=12 SEND USSD
+bit toolkit 4 FF=13 SEND SHORT MESSAGE
+bit toolkit 4 FF=14 SEND DTMF
+bit toolkit 4 FF=15 LAUNCH BROWSER
+bit toolkit 4 FF=20 PLAY TONE
+bit toolkit 4 FF=21 DISPLAY TEXT
+bit toolkit 4 FF=22 GET INKEY
+bit toolkit 4 FF=23 GET INPUT
+bit toolkit 4 FF=24 SELECT ITEM
+bit toolkit 4 FF=25 SET UP MENU
+bit toolkit 4 FF=26 PROVIDE LOCAL INFORMATION
+bit toolkit 4 FF=27 TIMER MANAGEMENT
+bit toolkit 4 FF=28 SET UP IDLE MODE TEXT
+bit toolkit 4 FF=30 PERFORM CARD APDU
+bit toolkit 4 FF=31 POWER ON CARD
+bit toolkit 4 FF=32 POWER OFF CARD
+bit toolkit 4 FF=33 GET READER STATUS
+bit toolkit 4 FF=34 RUN AT COMMAND
+bit toolkit 4 FF=35 LANGUAGE NOTIFICATION
+bit toolkit 4 FF=40 OPEN CHANNEL
+bit toolkit 4 FF=41 CLOSE CHANNEL
+bit toolkit 4 FF=42 RECEIVE DATA
+bit toolkit 4 FF=43 SEND DATA
+bit toolkit 4 FF=44 GET CHANNEL STATUS
 ";

@@ -1,8 +1,12 @@
 //! How the value of an object is shown as words, by the format of its row.
 
+use crate::describe::file_names::file_name;
+use crate::describe::meaning::push_meaning;
 use crate::describe::names::{Names, TagRow, joined};
 use crate::write::ascii::{are_printable, is_text};
 use crate::write::sheet::Sheet;
+use apdu_core::{Header, Status};
+use tlv_core::Tag;
 
 /// How the value of an object is shown as words. `names/tags.txt` says what each means.
 #[derive(Clone, Copy)]
@@ -31,12 +35,22 @@ pub enum Format {
     Descriptor,
     /// `sfi`, a short EF identifier.
     ShortFile,
+    /// `file`, a file identifier.
+    File,
+    /// `status`, a status word.
+    Status,
+    /// `toolkit`, a command of the card: its details come first.
+    Toolkit,
+    /// `afl`, files and their records to read.
+    Records,
+    /// `dol`, tags and sizes of values.
+    Sizes,
     /// A set of bits, by its name as a number.
     Bits(u64),
 }
 
 /// The formats with a name of their own.
-static FORMATS: [(&str, Format); 13] = [
+static FORMATS: [(&str, Format); 18] = [
     ("b", Format::Silent),
     ("t", Format::Silent),
     ("n", Format::Number),
@@ -50,6 +64,11 @@ static FORMATS: [(&str, Format); 13] = [
     ("cvm", Format::Methods),
     ("fd", Format::Descriptor),
     ("sfi", Format::ShortFile),
+    ("file", Format::File),
+    ("status", Format::Status),
+    ("toolkit", Format::Toolkit),
+    ("afl", Format::Records),
+    ("dol", Format::Sizes),
 ];
 
 /// The format with this name. `=SET` is a set of bits, whose name is printable.
@@ -89,6 +108,11 @@ pub fn push_words(text: &mut Sheet, names: &Names, row: Option<&TagRow>, value: 
         Format::Methods => push_methods(text, names, value),
         Format::Descriptor => push_descriptor(text, names, value),
         Format::ShortFile => push_short_file(text, value),
+        Format::File => push_file(text, value),
+        Format::Status => push_status(text, value),
+        Format::Toolkit => push_toolkit(text, names, value),
+        Format::Records => push_records(text, value),
+        Format::Sizes => push_sizes(text, value),
         Format::Bits(set) => names.push_bits(text, set, value, ": "),
     }
 }
@@ -278,4 +302,129 @@ fn push_short_file(text: &mut Sheet, value: &[u8]) {
     {
         push_number(text, " ", u64::from(byte >> 3));
     }
+}
+
+/// Adds the name of a file, if it has one.
+fn push_file(text: &mut Sheet, value: &[u8]) {
+    let name = file_name(0, value);
+    if !name.is_empty() {
+        separate(text, ": ");
+        text.push_str(name);
+    }
+}
+
+/// Adds what a status word means.
+fn push_status(text: &mut Sheet, value: &[u8]) {
+    if let [sw1, sw2] = value
+        && let Some(status) = Status::new(*sw1, *sw2)
+    {
+        let none = Header {
+            cla: 0,
+            ins: 0,
+            p1: 0,
+            p2: 0,
+        };
+        separate(text, ": ");
+        push_meaning(text, none, status);
+    }
+}
+
+/// Adds the name of a command of the card, if its details are first (ETSI TS 102 223, 6.6 and 8.6).
+fn push_toolkit(text: &mut Sheet, names: &Names, value: &[u8]) {
+    if let [0x01 | 0x81, 3, ..] = value {
+        names.push_bits(text, joined(0, b"toolkit"), value, ": ");
+    }
+}
+
+/// Adds which records to read: of each file the first and the last, and how many are signed (EMV
+/// 4.3, Book 3, 10.2). Nothing if an entry is invalid.
+fn push_records(text: &mut Sheet, value: &[u8]) {
+    if !are_entries(value) {
+        return;
+    }
+    let mut separator = ": ";
+    for place in 0..value.len() / 4 {
+        if let Some([file, first, last, signed]) = entry_at(value, place) {
+            separate(text, separator);
+            write!(text, "file {}, record", file >> 3);
+            if first == last {
+                write!(text, " {first}");
+            } else {
+                write!(text, "s {first} to {last}");
+            }
+            if *signed > 0 {
+                write!(text, ", {signed} signed");
+            }
+            separator = "; ";
+        }
+    }
+}
+
+/// Whether these are entries of a list of files, and some.
+fn are_entries(value: &[u8]) -> bool {
+    for place in 0..value.len() / 4 {
+        if !entry_at(value, place).is_some_and(is_entry) {
+            return false;
+        }
+    }
+    !value.is_empty() && value.len() % 4 == 0
+}
+
+/// Returns the entry of four bytes at this place.
+fn entry_at(value: &[u8], place: usize) -> Option<&[u8]> {
+    let begin = place.checked_mul(4)?;
+    value.get(begin..begin.checked_add(4)?)
+}
+
+/// Whether this is an entry of a list of files: a short file identifier, records, and no more of
+/// them are signed.
+fn is_entry(entry: &[u8]) -> bool {
+    match entry {
+        [file, first @ 1.., last, signed] => {
+            let is_file = file & 0x07 == 0 && (1..=30).contains(&(file >> 3));
+            let count = last
+                .checked_sub(*first)
+                .and_then(|more| more.checked_add(1));
+            is_file && count.is_some_and(|count| *signed <= count)
+        }
+        _ => false,
+    }
+}
+
+/// Adds the tags and sizes of values that a terminal is to send (EMV 4.3, Book 3, 5.4). Nothing if
+/// one is cut off.
+fn push_sizes(text: &mut Sheet, value: &[u8]) {
+    if !are_sizes(value) {
+        return;
+    }
+    let (mut rest, mut separator) = (value, ": ");
+    for _tag in 0..value.len() {
+        let Some((tag, size, behind)) = next_size(rest) else {
+            return;
+        };
+        separate(text, separator);
+        text.push_hex(tag);
+        write!(text, " {size}");
+        (rest, separator) = (behind, ", ");
+    }
+}
+
+/// Whether these are tags and sizes up to the end.
+fn are_sizes(value: &[u8]) -> bool {
+    let mut rest = value;
+    for _tag in 0..value.len() {
+        if let Some((_, _, behind)) = next_size(rest) {
+            rest = behind;
+        }
+    }
+    rest.is_empty()
+}
+
+/// Returns the first tag, its size, and what follows them.
+fn next_size(list: &[u8]) -> Option<(&[u8], u8, &[u8])> {
+    let (_, count) = Tag::read(list).ok()?;
+    let [size, behind @ ..] = list.get(count..)? else {
+        return None;
+    };
+    Some((list.get(..count)?, *size, behind))
 }

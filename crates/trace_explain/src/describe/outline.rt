@@ -4,7 +4,7 @@ ghost use Rattle.std.specs.Prelude.{◌≡◌, ◌≢◌, [], get_or};
 use crate::follow::story::{header_of, sent, status_of};
 use crate::follow::tally::Tally;
 use crate::follow::tpdu::Tpdu;
-use crate::instructions::{has_messaging, instruction};
+use crate::instructions::{has_messaging, name_of_command};
 use apdu_core::{Header, Status};
 use t0_core::Direction;
 
@@ -60,9 +60,7 @@ impl Outline {
     /// The name of the instruction; empty if it is unknown, hidden or cut off.
     pub fn instruction(&self) -> &'static str {
         match self.header {
-            Some((header, _)) if !self.is_hidden => {
-                instruction(header.cla, header.ins).map_or("", |(name, ..)| name)
-            }
+            Some((header, _)) if !self.is_hidden => { name_of_command(header).unwrap_or("") }
             _ => "",
         }
     }

@@ -1,6 +1,7 @@
 //! Words for commands: their names, and what P1-P2 mean.
 
-use crate::instructions::{Parts, instruction};
+use crate::describe::file_names::file_name;
+use crate::instructions::{Parts, instruction, name_of_command};
 use crate::write::sheet::Sheet;
 use apdu_core::Header;
 use tlv_core::ObjectTag;
@@ -31,15 +32,22 @@ pub fn push_command(text: &mut Sheet, header: Header, sent: &[u8]) {
                 Parts::Others => push_others(text, header),
             }
         }
-        None => {
-            write!(text, "INS {:02X}", header.ins);
-            push_parameters(text, header);
-        }
+        None => push_unlisted(text, header),
     }
     match header.cla {
         0x00 | 0x10 => {}
         cla => write!(text, ", class {cla:02X}"),
     }
+}
+
+/// Adds the name of a command that P1 tells from others, or INS; and P1-P2.
+fn push_unlisted(text: &mut Sheet, header: Header) {
+    if let Some(name) = name_of_command(header) {
+        text.push_str(name);
+        return push_others(text, header);
+    }
+    write!(text, "INS {:02X}", header.ins);
+    push_parameters(text, header);
 }
 
 /// Adds P1 and P2 as they are.
@@ -85,12 +93,21 @@ fn push_selected(text: &mut Sheet, header: Header, name: &[u8]) {
     if is_named {
         text.push(' ');
         text.push_hex(name);
+        push_file(text, header, name);
     } else if !name.is_empty() {
         text.push_str(", a long one");
     }
     let which = header.p2 & 0x03;
     if which != 0 {
         text.push_str(occurrence(which));
+    }
+}
+
+/// Adds the name of the file with this identifier or path, if it has one.
+fn push_file(text: &mut Sheet, header: Header, path: &[u8]) {
+    let name = file_name(header.cla, path);
+    if header.p1 != 0x04 && !name.is_empty() {
+        write!(text, " ({name})");
     }
 }
 

@@ -101,6 +101,9 @@ impl Blocks {
     fn try_crc(&mut self, byte: u8)
         ensures { overheard_by self.new ≡ overheard_by self.old }
     {
+        if self.with_crc.is_none() {
+            return;
+        }
         if let Some(mut tap) = self.with_crc.take() {
             tap.hear(BlockEnd::Terminal, byte);
             if let Some(item) = tap.item()

@@ -1,9 +1,10 @@
 //! A command and its answer as one TPDU (ISO/IEC 7816-4, 5.1; ISO/IEC 7816-3, 12).
-ghost use Rattle.std.specs.Prelude.{◌≡◌, [], ◌∷◌, ◌++◌, Some, IfOk, IfErr, OnOk};
-ghost use Rattle.trace_explain.specs.Pairs.{Command, IsBadCommand, IsBadPair, IsBadRest, IsCommand, IsPair, ReportsPair, asks_for, beside, command_in, is_refusal, moved_of, way_of, with_p3};
+ghost use Rattle.std.specs.Prelude.{◌&&◌, ◌≡◌, [], ◌∷◌, ◌++◌, Some, IfOk, IfErr, OnOk};
+ghost use Rattle.trace_explain.specs.Pairs.{Command, IsBadCommand, IsBadPair, IsBadRest, IsCommand, IsPair, ReportsPair, asks_for, beside, command_in, has_le, is_refusal, is_unasked, moved_of, way_of, with_p3};
 
 use crate::follow::tally::Tally;
 use crate::follow::tpdu::{Tpdu, are_status};
+use crate::instructions::brings_none;
 use crate::read::digits::push;
 use apdu_core::count;
 use std::alloc::{AllocError, Global};
@@ -28,6 +29,9 @@ pub enum PairFault {
     /// The answer has more data than Le asks for.
     #[error("an answer with more data than Le asks for")]
     TooMany,
+    /// In a log: the answer has data, the command has no Le, and its INS never brings any.
+    #[error("an answer with data, and the command has no Le and asks for none")]
+    Unasked,
     /// Memory ran out.
     #[error("out of memory")]
     OutOfMemory,
@@ -96,6 +100,34 @@ fn asks_for(le: Option<u8>, came: usize) -> bool
     ensures { result ≡ asks_for le came }
 {
     le.is_none_or(|le| came <= usize::from(count(le)))
+}
+
+/// Whether an answer has data that its command never brings: it has no Le, and the standard of its
+/// INS names no data of the card. Behind others a reader may add Le, or fetch what waits.
+pub fn is_unasked(command: &[u8], answer: &[u8]) -> bool
+    ensures { result ≡ is_unasked command.now answer.now }
+{
+    let [cla, ins, _, _, lengths @ ..] = command else {
+        return false;
+    };
+    are_all(answer.len() > 2, !has_le(lengths), brings_none(*cla, *ins))
+}
+
+/// Whether all three hold. For the proof: a function, so that no goal unfolds what they are.
+fn are_all(first: bool, second: bool, third: bool) -> bool
+    ensures { result ≡ (first && second && third) }
+{
+    first && second && third
+}
+
+/// Whether these length fields and data of a short command have Le.
+fn has_le(lengths: &[u8]) -> bool
+    ensures { result ≡ has_le lengths.now }
+{
+    match lengths {
+        [p3, rest @ ..] => rest.is_empty() || rest.len() > usize::from(*p3),
+        [] => false,
+    }
 }
 
 /// Whether an answer looks like characters of T=0: after NULLs comes INS, alone or before as many

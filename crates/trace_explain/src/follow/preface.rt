@@ -1,7 +1,5 @@
 //! What precedes a dialogue: the card's answer to reset, and PPS exchanges.
 ghost use Rattle.std.specs.Prelude.{◌≡◌, false, true, if◌then◌else◌, OnOk};
-ghost use Rattle.std.specs.Option.{option_map, unwrap_or};
-ghost use Rattle.trace_explain.specs.Overheard.{overheard_by, silent};
 ghost use Rattle.trace_explain.specs.declared.follow.opening.Role.TheVariants.{Block};
 ghost use Rattle.trace_explain.specs.declared.follow.opening.Stage.TheVariants.{Begun};
 ghost use Rattle.trace_explain.specs.Openings.{first_opening, has_answered, is_full, leads_to_blocks, opening_of, opens, or_block, role_of, opening_at, unopened};
@@ -161,8 +159,13 @@ impl Preface {
         ensures { OnOk result
             (opening_of self.new ≡ opens (opening_of self.old) (Block from) byte number) }
     {
+        if let Some(blocks) = &mut self.blocks {
+            blocks.hear(from, byte, number)?;
+            self.forget(Stage::Blocks);
+            return Ok(());
+        }
         let edc = edc_of(has_crc(self.answer.as_slice()));
-        let mut blocks = begun(self.alloc, edc, self.blocks.take());
+        let mut blocks = Blocks::new(self.alloc, edc, false);
         blocks.hear(from, byte, number)?;
         self.begin(Stage::Blocks);
         self.blocks = Some(blocks);
@@ -180,23 +183,21 @@ impl Preface {
     fn begin(&mut self, stage: Stage)
         ensures { opening_of self.new ≡ opening_at stage }
     {
+        self.forget(stage);
+        self.blocks = None;
+    }
+
+    /// Forgets all characters but those of blocks, and continues at this stage.
+    fn forget(&mut self, stage: Stage)
+        ensures { opening_of self.new ≡ record (opening_at stage) {
+          blocks = (opening_of self.old).blocks;
+        } }
+    {
         self.stage = stage;
         self.turned = Convention::Direct;
         self.answer.clear();
         self.request.clear();
         self.response.clear();
-        self.blocks = None;
-    }
-}
-
-/// These blocks, or none so far.
-fn begun(alloc: Global, edc: Edc, blocks: Option<Blocks>) -> Blocks
-    ensures { overheard_by result
-        ≡ unwrap_or (option_map overheard_by blocks) (silent edc false) }
-{
-    match blocks {
-        Some(blocks) => blocks,
-        None => Blocks::new(alloc, edc, false),
     }
 }
 

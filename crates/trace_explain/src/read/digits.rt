@@ -22,7 +22,7 @@ pub enum Spot {
 
 /// Returns the bytes that digits spell: two each, in either case, with any spaces around bytes.
 /// Right behind a byte, a comma or a colon may precede the next one, and `0x` each. If `is_short`,
-/// one digit before a space is a byte, too: at the end it may be cut off.
+/// the last byte may be one digit before a space.
 ///
 /// # Errors
 ///
@@ -52,7 +52,7 @@ pub fn spelled(alloc: Global, is_short: bool, digits: &[u8]) -> Result<Vec<u8>, 
                 spot = Spot::Bound;
                 continue 'digits;
             }
-            let byte = byte_at(is_short, high, digit).ok_or(LineFault::Hex)?;
+            let byte = byte_at(is_short && rest.is_empty(), high, digit).ok_or(LineFault::Hex)?;
             push(&mut bytes, byte)?;
         }
         spot = next_spot(spot, digit);

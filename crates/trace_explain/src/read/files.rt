@@ -3,6 +3,8 @@ ghost use Rattle.std.specs.Prelude.{◌≡◌};
 ghost use Rattle.std.specs.Option.{option_copied};
 ghost use Rattle.trace_explain.specs.Files.{file_at, name_at, number_at};
 
+use crate::read::digits::append;
+use crate::read::wide::as_utf8;
 use std::alloc::{AllocError, Global};
 use std::fs::File;
 use std::io::{ErrorKind, Read};
@@ -38,15 +40,16 @@ pub fn joined<'p, D: Files, R: Read>(
     input: &mut R,
 ) -> Result<(FileList, Vec<u8>), FileFault<'p>> {
     let mut list = FileList::none(alloc);
-    let mut all = Vec::new(alloc);
+    let mut all: Vec<u8> = Vec::new(alloc);
     let mut first: u64 = 1;
     for &path in paths {
         let begins = all.len();
+        let mut own = Vec::new(alloc);
         let read = match path {
-            "-" => input.read_to_end(&mut all),
+            "-" => input.read_to_end(&mut own),
             _ => File::open(files, path)
                 .map_err(|_| FileFault::Open(path))?
-                .read_to_end(&mut all),
+                .read_to_end(&mut own),
         };
         if let Err(error) = read {
             return Err(match error.kind() {
@@ -54,6 +57,7 @@ pub fn joined<'p, D: Files, R: Read>(
                 _ => FileFault::Read(path),
             });
         }
+        append(&mut all, as_utf8(alloc, own)?)?;
         if all.len() > begins && all.last() != Some(&b'\n') {
             all.push(b'\n').map_err(AllocError::from)?;
         }

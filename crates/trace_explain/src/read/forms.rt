@@ -12,6 +12,9 @@ use thiserror::Error;
 /// ESC, which begins a colour.
 const ESC: u8 = 0x1B;
 
+/// The bytes of a line that may continue in the next one, unless its form says otherwise.
+const ROW: usize = 16;
+
 /// The form of a log without `--form`.
 pub const LOG: &str = "pcsc";
 
@@ -107,9 +110,13 @@ command: -> {bytes}
 answer: <- {status}: {bytes}
 form scdaemon: commands
 command: {any} DBG: PCSC_data: {bytes}
+command: {any} DBG: PCSC_data: {more 32}{bytes} \\
 answer: {any} DBG: response: sw={status} datalen={count}
 rest: {time}{any} DBG: dump: [all zero]{zeros}
 rest: {time}{any} DBG: dump: {bytes}
+rest: {time}{any} DBG: dump: {bytes} \\
+rest: {time}{any} DBG: {bytes}
+rest: {time}{any} DBG: {more 32}{bytes} \\
 form pcsc-spy: commands
 on: {prefix}SCardTransmit{any}
 off: {prefix}=> {any}
@@ -383,11 +390,19 @@ fn part_of(name: &[u8], stop: Stop) -> Option<Part> {
         ("spaces", Part::Spaces),
         ("time", Part::Time),
         ("prefix", Part::Prefix),
-        ("more", Part::More),
+        ("more", Part::More(ROW)),
     ];
     match parts.iter().find(|row| row.0.as_bytes() == name) {
         Some((_, part)) => Some(*part),
-        None => Some(Part::Skip(number_of(name.strip_prefix(b"skip ")?)?)),
+        None => counted(name),
+    }
+}
+
+/// Returns the part with a number behind this name.
+fn counted(name: &[u8]) -> Option<Part> {
+    match name.strip_prefix(b"skip ") {
+        Some(digits) => Some(Part::Skip(number_of(digits)?)),
+        None => Some(Part::More(number_of(name.strip_prefix(b"more ")?)?)),
     }
 }
 

@@ -22,9 +22,6 @@ use t0_core::{Direction, End};
 /// The most bytes of an answer or a dump in several lines (this project's profile).
 const READ_LIMIT: usize = 4_194_304;
 
-/// The bytes of a line that may continue in the next one.
-const ROW: usize = 16;
-
 /// What the next line may continue.
 #[derive(Clone, Copy)]
 pub enum Open {
@@ -72,6 +69,11 @@ impl Log {
     /// Whether a command or an answer has begun.
     pub fn has_begun(&self) -> bool {
         self.has_begun
+    }
+
+    /// Whether the next line may continue bytes.
+    pub fn is_open(&self) -> bool {
+        matches!(self.pending, Open::Line(_) | Open::Dump(..))
     }
 
     /// Takes the next line, and appends what it adds to `entries`.
@@ -429,7 +431,7 @@ fn opens(from: End, marks: &Marks) -> Open
 {
     if marks.count > 0 {
         Open::Dump(from, marks.count)
-    } else if marks.goes_on && marks.bytes.len() == ROW {
+    } else if marks.goes_on > 0 && marks.goes_on == marks.bytes.len() {
         Open::Line(from)
     } else {
         Open::Nothing

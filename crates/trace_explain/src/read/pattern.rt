@@ -57,8 +57,8 @@ pub enum Part {
     Zeros,
     /// This many bytes of a dump, which don't count.
     Skip(usize),
-    /// The next line may continue the bytes, if these are 16.
-    More,
+    /// The next line may continue the bytes, if these are as many.
+    More(usize),
 }
 
 /// What a pattern marks in a line.
@@ -70,8 +70,8 @@ pub struct Marks {
     pub status: Vec<u8>,
     /// The number of bytes in the lines that follow.
     pub count: usize,
-    /// Whether the next line may continue the bytes.
-    pub goes_on: bool,
+    /// With how many bytes the next line may continue them; 0 if it may not.
+    pub goes_on: usize,
 }
 
 /// Returns what follows a part at the beginning of a line; `None` if the line begins otherwise.
@@ -89,7 +89,7 @@ pub fn behind(part: Part, left: usize, line: &[u8]) -> Option<&[u8]>
         Part::WordEnd if !ends_word(line) => None,
         Part::Gap if !has_gap(line) => None,
         Part::Row | Part::Zeros if left == 0 => None,
-        Part::WordEnd | Part::Gap | Part::Zeros | Part::More => Some(line),
+        Part::WordEnd | Part::Gap | Part::Zeros | Part::More(_) => Some(line),
         Part::Spaces => Some(behind_spaces(line)),
         Part::Time => Some(behind_time(line)),
         Part::Prefix => Some(behind_prefix(line)),
@@ -155,7 +155,7 @@ impl Marks {
             bytes: Vec::new(alloc),
             status: Vec::new(alloc),
             count: 0,
-            goes_on: false,
+            goes_on: 0,
         }
     }
 
@@ -185,7 +185,7 @@ impl Marks {
             Part::Count(stop) => {
                 self.count = number_of(cut_field(stop, line).0).ok_or(LineFault::Hex)?;
             }
-            Part::More => self.goes_on = true,
+            Part::More(count) => self.goes_on = count,
             Part::Is(_)
             | Part::WordEnd
             | Part::Gap

@@ -38,6 +38,9 @@ pub enum LineFault {
     /// In a log it has digits alone, right behind a line with bytes, and continues none.
     #[error("digits that continue no line: the line before may be cut")]
     Loose,
+    /// In a log it belongs to another thread, process or reader than the command before.
+    #[error("another thread, process or reader than the command before: give the lines of one")]
+    Mixed,
     /// In a log it continues an answer or a dump that exceeds `READ_LIMIT` bytes.
     #[error("line too long")]
     TooLong,

@@ -5,7 +5,7 @@ use crate::describe::mask::HIDDEN;
 use crate::follow::block_row::BlockRow;
 use crate::follow::story::{header_of, status_of};
 use crate::follow::tpdu::Tpdu;
-use crate::instructions::instruction;
+use crate::instructions::name_of_command;
 use crate::write::layout::{Anchor, Side};
 use crate::write::page::Page;
 use std::alloc::{AllocError, Global};
@@ -170,8 +170,8 @@ impl Counts {
             self.parts = self.parts.saturating_add(1);
             return Ok(());
         };
-        match instruction(header.cla, header.ins) {
-            Some((name, ..)) => count(&mut self.named, name),
+        match name_of_command(header) {
+            Some(name) => count(&mut self.named, name),
             None => count(&mut self.unnamed, header.ins),
         }
     }

@@ -18,7 +18,7 @@ use crate::follow::command::Command;
 use crate::follow::links::Links;
 use crate::follow::listener::{Listener, ListenerFault};
 use crate::follow::opening::{Role, Stage};
-use crate::follow::pair::{PairFault, take_command, take_pair, tpdu_of_pair};
+use crate::follow::pair::{PairFault, is_unasked, take_command, take_pair, tpdu_of_pair};
 use crate::follow::preface::Preface;
 use crate::follow::story::Story;
 use crate::follow::tpdu::{Mark, Tpdu};
@@ -610,6 +610,7 @@ impl Teller {
     fn pair(&mut self, command: &[u8], answer: Option<&[u8]>) -> Result<(), AllocError> {
         let mut tpdu = mem::replace(&mut self.spare, Tpdu::new(self.alloc));
         let outcome = match answer {
+            Some(bytes) if is_unasked(command, bytes) => Err(PairFault::Unasked),
             Some(bytes) => take_pair(&mut tpdu, command, bytes),
             None => take_command(&mut tpdu, command),
         };

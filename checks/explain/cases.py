@@ -2,7 +2,8 @@
 
 - checks/explain/cases/NAME.trace with NAME.out (the whole output), NAME.args (words), and NAME.err
   (standard error, if the status is 1). Those in captures/ are whole sessions.
-- statuses.txt: `HEADER STATUS SENTENCE`, the sentence for a status after such a command.
+- statuses.txt, uicc_statuses.txt: `HEADER STATUS SENTENCE`, the sentence for a status after such a
+  command.
 - titles.txt: the title of a command, as `HEADER | TITLE`, `HEADER > DATA | TITLE` (data of the
   terminal) or `HEADER < DATA | TITLE` (data of the card).
 - secrets_told.py: traces with a secret, which the output must not show.
@@ -310,7 +311,7 @@ def rows(name):
 def status_case():
     """Each status after its command, with a reset after it, in one trace."""
     given, wanted = [], []
-    for line in rows("statuses.txt"):
+    for line in [*rows("statuses.txt"), *rows("uicc_statuses.txt")]:
         header, status, _ = line.split(" ", 2)
         given += [f"> {header}", f"< {status}", "reset"]
         wanted.append(line.split(" ", 1)[1])
@@ -627,14 +628,17 @@ def unsigned_cases(signed):
 
 
 def found_cases(cases):
-    """The same logs without `--form`, since their first lines show it: as they are, and in lines
-    with CR and LF."""
-    for case in cases:
+    """The same logs without `--form`, since their first lines show it: as they are, in lines with
+    CR and LF, and in UTF-16."""
+    for case, code in zip(cases, cycle(("utf-16", "utf-16-le", "utf-16-be"))):
         form = " ".join(case.words).removeprefix("--form ")
         if form in OF_FORMS and not case.error:
             for end in (b"\n", b"\r\n"):
                 yield replace(case, name=f"{case.name}, found, {end}", words=[],
                               given=case.given.replace(b"\n", end), error=f"form: {form}\n")
+            if case.given.isascii():
+                yield replace(case, name=f"{case.name}, found, {code}", words=[],
+                              given=case.given.decode().encode(code), error=f"form: {form}\n")
 
 
 def there(path):

@@ -1,7 +1,8 @@
-"""The functions between C and the module on a machine of 32 bits, as text of LLVM.
+"""The functions between C and the module, as text of LLVM.
 
-The module's functions take sizes of 64 bits. C's size_t has 32 there: in the functions that C
-calls, and in those for memory, which the module calls.
+The module's functions take sizes of 64 bits. On a machine of 32 bits C's size_t has 32: in the
+functions that C calls, and in those for memory, which the module calls. These return a struct, and
+not each machine's C in the way of the module.
 """
 
 import re
@@ -14,54 +15,70 @@ class Unknown(Exception):
 DECLARED = re.compile(r"^\w+ galliumtoad_(\w+)\(([^)]*)\);", re.M)
 DEFINED = re.compile(r"define (?P<back>(?:noundef )?(?:i32|void)) @galliumtoad_(?P<name>\w+)"
                      r"\((?P<parameters>.*)\)(?P<rest> #\d+) \{")
-# rattle_alloc and rattle_realloc return a C struct of a flag and a pointer, through a pointer: so
-# do the calls of C for 32-bit ARM and x86.
-MEMORY = """
-declare void @rattle_alloc(ptr sret({ i8, ptr }) align 4, i32, i32)
-declare void @rattle_realloc(ptr sret({ i8, ptr }) align 4, ptr, i32, i32, i32)
+# How C returns gt_taken, a struct of a flag and a pointer: to a place that the caller names, or in
+# two registers.
+PLACE, REGISTERS = "place", "registers"
+# Calls C's function `name`, with the module's parameters.
+ASK = """
+declare {back} @{name}({types})
 
-define internal { i64, i64 } @wide.rattle_alloc(i64 %size, i64 %align) nounwind {
-  %is_large = icmp ugt i64 %size, 4294967295
+define internal {{ i64, i64 }} @wide.{name}({parameters}) nounwind {{
+  %is_large = icmp ugt i64 %size, {most}
   br i1 %is_large, label %refused, label %asked
 refused:
-  ret { i64, i64 } { i64 0, i64 1 }
+  ret {{ i64, i64 }} {{ i64 0, i64 1 }}
 asked:
-  %taken = alloca { i8, ptr }, align 4
-  %size.32 = trunc i64 %size to i32
-  %align.32 = trunc i64 %align to i32
-  call void @rattle_alloc(ptr sret({ i8, ptr }) align 4 %taken, i32 %size.32, i32 %align.32)
-  %pair = call { i64, i64 } @wide.taken(ptr %taken)
-  ret { i64, i64 } %pair
-}
-
-define internal { i64, i64 } @wide.rattle_realloc(ptr %block, i64 %kept, i64 %size, i64 %align) \
-nounwind {
-  %is_large = icmp ugt i64 %size, 4294967295
-  br i1 %is_large, label %refused, label %asked
-refused:
-  ret { i64, i64 } { i64 0, i64 1 }
-asked:
-  %taken = alloca { i8, ptr }, align 4
-  %kept.32 = trunc i64 %kept to i32
-  %size.32 = trunc i64 %size to i32
-  %align.32 = trunc i64 %align to i32
-  call void @rattle_realloc(ptr sret({ i8, ptr }) align 4 %taken, ptr %block, i32 %kept.32, \
-i32 %size.32, i32 %align.32)
-  %pair = call { i64, i64 } @wide.taken(ptr %taken)
-  ret { i64, i64 } %pair
-}
-
-define internal { i64, i64 } @wide.taken(ptr %taken) nounwind {
-  %some = load i8, ptr %taken, align 4
-  %some.64 = zext i8 %some to i64
-  %place = getelementptr i8, ptr %taken, i32 4
-  %at = load ptr, ptr %place, align 4
-  %at.64 = ptrtoint ptr %at to i64
-  %half = insertvalue { i64, i64 } poison, i64 %some.64, 0
-  %pair = insertvalue { i64, i64 } %half, i64 %at.64, 1
-  ret { i64, i64 } %pair
-}
+{asked}
+  ret {{ i64, i64 }} %pair
+}}
 """
+TO_PLACE = """
+  %taken = alloca {{ i8, ptr }}, align {width}{shortened}
+  call void @{name}({place} %taken, {given})
+  %pair = call {{ i64, i64 }} @wide.taken(ptr %taken)"""
+TAKEN = """
+define internal {{ i64, i64 }} @wide.taken(ptr %taken) nounwind {{
+  %some = load i8, ptr %taken, align {width}
+  %some.64 = zext i8 %some to i64
+  %place = getelementptr i8, ptr %taken, i{bits} {width}
+  %at = load ptr, ptr %place, align {width}
+  %at.64 = ptrtoint ptr %at to i64
+  %half = insertvalue {{ i64, i64 }} poison, i64 %some.64, 0
+  %pair = insertvalue {{ i64, i64 }} %half, i64 %at.64, 1
+  ret {{ i64, i64 }} %pair
+}}
+"""
+# The flag is the lowest byte. The others of its register may be anything.
+TO_REGISTERS = """{shortened}
+  %taken = call {back} @{name}({given})
+  %first = extractvalue {back} %taken, 0
+  %flag = and i{bits} %first, 255
+  %flag.64 = zext i{bits} %flag to i64
+  %second = extractvalue {back} %taken, 1
+  %second.64 = zext i{bits} %second to i64
+  %half = insertvalue {{ i64, i64 }} poison, i64 %flag.64, 0
+  %pair = insertvalue {{ i64, i64 }} %half, i64 %second.64, 1"""
+OF_MEMORY = {"rattle_alloc": ("i64 %size", "i64 %align"),
+             "rattle_realloc": ("ptr %block", "i64 %kept", "i64 %size", "i64 %align")}
+
+
+def memory(bits, returned):
+    """The functions between the module and C's for memory."""
+    width = bits // 8
+    place = f"ptr sret({{ i8, ptr }}) align {width}"
+    how = {"bits": bits, "width": width, "place": place, "most": 2 ** bits - 1,
+           "back": "void" if returned == PLACE else f"[2 x i{bits}]"}
+    for name, parameters in OF_MEMORY.items():
+        given = [re.sub(r"i64 (\S+)", r"i32 \1.32", it) if bits == 32 else it for it in parameters]
+        shortened = "".join(f"\n  {it.split()[1]}.32 = trunc {it} to i32" for it in parameters
+                            if bits == 32 and it[0] == "i")
+        types = [place] * (returned == PLACE) + [it.split()[0] for it in given]
+        how |= {"name": name, "given": ", ".join(given), "shortened": shortened}
+        asked = (TO_PLACE if returned == PLACE else TO_REGISTERS).format(**how)
+        yield ASK.format(**how, types=", ".join(types), parameters=", ".join(parameters),
+                         asked=asked[1:])
+    if returned == PLACE:
+        yield TAKEN.format(**how)
 
 
 def declared(header):
@@ -135,4 +152,4 @@ def with_fronts(lines, header):
         out.append(line)
     if types:
         raise Unknown(f"the module has no {', '.join(sorted(types))}")
-    return [*out, *fronts, *MEMORY.splitlines()]
+    return [*out, *fronts]

@@ -64,7 +64,8 @@ class Kit:
     def archive(self, text, target):
         """The archive for a target, of the module's text."""
         try:
-            written = rewriting.rewritten(text, target.bits, HEADER.read_text(encoding="utf-8"))
+            written = rewriting.rewritten(text, target.bits, HEADER.read_text(encoding="utf-8"),
+                                          target.returned, target.triple)
         except rewriting.Unknown as fault:
             raise Fault(f"{target.name}: {fault}") from None
         with tempfile.TemporaryDirectory() as room:

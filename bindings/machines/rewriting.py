@@ -11,7 +11,7 @@ import itertools
 import math
 import re
 
-from fronts import Unknown, with_fronts
+from fronts import PLACE, REGISTERS, Unknown, memory, with_fronts
 
 NAME = r'%(?:"[^"]+"|[\w.$-]+)'
 GLOBAL = r'@(?:"[^"]+"|[\w.$]+)'
@@ -49,6 +49,10 @@ SAME = re.compile("|".join(f"(?:{it})" for it in (
     rf"(?:{NAME} = )?(?:tail )?call {BACK} @{PURE}.*\)(?: #\d+)?")))
 # What names the machine that the module was made for. clang gets another one.
 MACHINE = re.compile(r'^target (?:datalayout|triple) = .*\n| "target-cpu"="[^"]*"', re.M)
+# How a function with a large stack touches it. On Windows clang has its own way.
+PROBE = re.compile(r' "probe-stack"="[^"]*"')
+# On 64-bit RISC-V C expects a code as a register of 64 bits with its sign.
+CODE = re.compile(r"^define noundef i32(?= @galliumtoad_)", re.M)
 LAYOUT = re.compile(r'^target datalayout = "e-', re.M)
 
 
@@ -89,6 +93,7 @@ class Narrow:
         return [f"  {name} = load {kind}, ptr {place}, align {align}"]
 
     def address(self, name, value):
+        """With ptrtoaddr to 64 bits clang -O1 makes an invalid module of WebAssembly."""
         return [f"  {name} = ptrtoint ptr {value} to i64"]
 
     def alloca(self, name):
@@ -105,17 +110,6 @@ class Narrow:
     def declare_move(self, front, places, behind):
         return [f"{front}.i32({places}, i32, i1{behind}"]
 
-    def call_memory(self, front, name, behind):
-        return [f"  {front}@wide.{name}{behind}"]
-
-    def free(self, line):
-        """A block is given back in the same way."""
-        return [line]
-
-    def drop(self, _):
-        """`fronts` declares it."""
-        return []
-
 
 # The other lines. On a machine of 64 bits they stay as they are.
 RULES = [(re.compile(pattern), rule) for pattern, rule in (
@@ -128,11 +122,11 @@ RULES = [(re.compile(pattern), rule) for pattern, rule in (
     (rf"  (call void )(@llvm\.mem(?:cpy|move|set)\.p0(?:\.p0)?)\.i64\((.*), i64 ({VALUE}), "
      r"(i1 \w+)\)", Narrow.move),
     (r"(declare void @llvm\.mem(?:cpy|move|set)\.p0(?:\.p0)?)\.i64\((.*), i64, i1(.*)",
-     Narrow.declare_move),
-    (rf"  ({NAME} = call \{{ i64, i64 \}} )@(rattle_(?:re)?alloc)(\(.*\))", Narrow.call_memory),
-    (r"(  call void @rattle_dealloc\(ptr .*\)|declare void @rattle_dealloc\(ptr.*\).*)",
-     Narrow.free),
-    (r"(declare \{ i64, i64 \} @rattle_(?:re)?alloc\(.*\).*)", Narrow.drop))]
+     Narrow.declare_move))]
+# Of memory. A block is given back in the same way on each machine.
+CALL = re.compile(rf"(  {NAME} = call \{{ i64, i64 \}} @)(rattle_(?:re)?alloc\(.*\))")
+DECLARED = re.compile(r"declare \{ i64, i64 \} @rattle_(?:re)?alloc\(.*\).*")
+FREE = re.compile(r"  call void @rattle_dealloc\(ptr .*\)|declare void @rattle_dealloc\(ptr.*\).*")
 
 
 def size_of(kind):
@@ -140,22 +134,38 @@ def size_of(kind):
     return 8 if kind == "ptr" else -(-int(kind[1:]) // 8)
 
 
-def rewritten_line(line, narrow):
-    """The lines in place of this one. Without `narrow` it must be a known one, and stays."""
-    if SAME.fullmatch(line.strip()):
+def rewritten_line(line, narrow, is_own):
+    """The lines in place of this one. Without `narrow` it must be a known one, and stays. If
+    `is_own`, C's functions for memory are called as the module does."""
+    if SAME.fullmatch(line.strip()) or FREE.fullmatch(line):
         return [line]
     for pattern, rule in RULES:
         found = pattern.fullmatch(line)
         if found:
             return rule(narrow, *found.groups()) if narrow else [line]
+    found = CALL.fullmatch(line)
+    if found:
+        return [line if is_own else f"{found[1]}wide.{found[2]}"]
+    if DECLARED.fullmatch(line):
+        return [line] if is_own else []
     raise Unknown(f"an unknown form: {line.strip()}")
 
 
-def rewritten(text, bits, header):
-    """The module's text for a machine with pointers of 32 or 64 bits, and C's `header`."""
+def rewritten(text, bits, header, returned=None, triple=""):
+    """The module's text for a machine with pointers of 32 or 64 bits, and C's `header`. `returned`
+    is how C returns gt_taken there, by default as most machines of that width do. `triple` is the
+    machine's name for clang."""
+    returned = returned or {32: PLACE, 64: REGISTERS}[bits]
     if not LAYOUT.search(text):
         raise Unknown("a module that is for no little-endian machine")
     narrow = {32: Narrow(), 64: None}[bits]
-    lines = [it for line in MACHINE.sub("", text).splitlines()
-             for it in rewritten_line(line, narrow)]
-    return "\n".join(with_fronts(lines, header) if narrow else lines) + "\n"
+    is_own = (bits, returned) == (64, REGISTERS)
+    text = MACHINE.sub("", PROBE.sub("", text) if "windows" in triple else text)
+    lines = [it for line in text.splitlines()
+             for it in rewritten_line(line, narrow, is_own)]
+    if narrow:
+        lines = with_fronts(lines, header)
+    made = "\n".join(lines) + "\n"
+    if not is_own:
+        made += "".join(memory(bits, returned))
+    return CODE.sub("define noundef signext i32", made) if "riscv64" in triple else made

@@ -1,13 +1,20 @@
-//! Links the proved archive of the target. It is in `lib` of a package, or in `../lib` of the
-//! repository. If `GALLIUMTOAD_LIB_DIR` is set, it links `libgalliumtoad.a` of that folder, which
-//! contains the functions for memory too.
+//! Links the archive of the target, proved or made of the same module. It is in `lib` of a
+//! package, or in `../lib` or `../machines` of the repository. If `GALLIUMTOAD_LIB_DIR` is set, it
+//! links `libgalliumtoad.a` of that folder, which contains the functions for memory too.
 
 use std::env;
 use std::path::{Path, PathBuf};
 use std::process::exit;
 
 /// The targets with an archive, for the linker's error.
-const TARGETS: [&str; 2] = ["x86_64-linux-gnu", "aarch64-linux-gnu"];
+const TARGETS: [&str; 6] = [
+    "x86_64-linux-gnu",
+    "aarch64-linux-gnu",
+    "arm-linux-gnu",
+    "i686-linux-gnu",
+    "thumbv7em-none-eabi",
+    "thumbv6m-none-eabi",
+];
 
 fn main() {
     println!("cargo:rerun-if-env-changed=GALLIUMTOAD_LIB_DIR");
@@ -23,16 +30,15 @@ fn main() {
     let here = PathBuf::from(env::var_os("CARGO_MANIFEST_DIR").unwrap_or_default());
     // a package contains the archives; in the repository they are next to the crate
     let inside = here.join("lib");
-    let archives = if inside.is_dir() {
-        inside
-    } else {
-        here.join("../lib")
-    };
-    if here.join("Cargo.toml.orig").is_file() && !archives.is_dir() {
+    if here.join("Cargo.toml.orig").is_file() && !inside.is_dir() {
         eprintln!("a package by `cargo package` has no archives: make it by bindings/package");
         exit(1);
     }
-    if !link(&archives.join(target()), "card_c") {
+    let target = target();
+    if ![inside, here.join("../lib"), here.join("../machines")]
+        .iter()
+        .any(|it| link(&it.join(&target), "card_c"))
+    {
         return link_nothing();
     }
     if env::var_os("CARGO_FEATURE_OWN_MEMORY").is_none() {
@@ -40,18 +46,23 @@ fn main() {
     }
 }
 
-/// The target, as the archives' folders name it. For Linux, and without a system, the processor
-/// alone counts: an archive uses only functions that copy and set memory, which Rust has too. No
-/// archive is for big-endian processors or pointers of another width than 64 bits.
+/// The target, as the archives' folders name it. Of 64 bits, for Linux and without a system, the
+/// processor alone counts: an archive uses only functions that copy and set memory, which Rust has
+/// too. Of 32 bits the archives are for these targets; a Cortex-M3 runs the code of a Cortex-M0. No
+/// archive is for big-endian processors.
 fn target() -> String {
     let of = |name: &str| env::var(format!("CARGO_CFG_TARGET_{name}")).unwrap_or_default();
-    match (of("OS"), of("POINTER_WIDTH"), of("ENDIAN")) {
-        (os, width, endian)
-            if matches!(&*os, "linux" | "none") && (&*width, &*endian) == ("64", "little") =>
-        {
+    let (os, width, endian) = (of("OS"), of("POINTER_WIDTH"), of("ENDIAN"));
+    let named = env::var("TARGET").unwrap_or_default();
+    match &*named {
+        "thumbv7em-none-eabi" | "thumbv6m-none-eabi" => named,
+        "thumbv7m-none-eabi" => "thumbv6m-none-eabi".into(),
+        "armv7-unknown-linux-gnueabihf" => "arm-linux-gnu".into(),
+        "i686-unknown-linux-gnu" => "i686-linux-gnu".into(),
+        _ if matches!(&*os, "linux" | "none") && (&*width, &*endian) == ("64", "little") => {
             format!("{}-linux-gnu", of("ARCH"))
         }
-        (os, width, endian) => format!("{}-{os}-{width}-{endian}", of("ARCH")),
+        _ => format!("{}-{os}-{width}-{endian}", of("ARCH")),
     }
 }
 

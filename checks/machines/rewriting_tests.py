@@ -2,6 +2,7 @@
 follows from the layout of values on 64 bits, and from C's calls on 32."""
 
 import os
+import re
 import subprocess
 import sys
 import tempfile
@@ -11,7 +12,7 @@ from unittest import mock
 
 sys.path.insert(0, str(Path(__file__).resolve().parents[2] / "bindings/machines"))
 import kit  # noqa: E402
-from fronts import Unknown  # noqa: E402
+from fronts import PLACE, REGISTERS, Unknown  # noqa: E402
 from rewriting import rewritten  # noqa: E402
 
 FRONT = 'target datalayout = "e-m:e-i64:64"\ntarget triple = "x86_64-unknown-linux-gnu"\n'
@@ -234,6 +235,59 @@ class Fronts(unittest.TestCase):
                          ("define void @", "define dso_local void @")):
             with self.subTest(new), self.assertRaises(Unknown):
                 self.made(module=self.MODULE.replace(old, new))
+
+
+class Memory(unittest.TestCase):
+    """How the module's requests for memory reach C's functions."""
+
+    def asked(self, bits, returned):
+        """The function between them, and C's, as they are in the text."""
+        text = rewritten(FRONT, bits, "", returned)
+        call = re.search(r"  (?:%taken = )?(call .* @rattle_realloc\(.*\))", text)[1]
+        declared = re.search(r"declare (.*) @rattle_realloc\((.*)\)", text)
+        return call, declared[1], declared[2], text
+
+    def test_a_place_for_it(self):
+        for bits, align, size in ((32, 4, "i32 %{}.32"), (64, 8, "i64 %{}")):
+            with self.subTest(bits):
+                call, back, types, text = self.asked(bits, PLACE)
+                sizes = ", ".join(size.format(it) for it in ("kept", "size", "align"))
+                place = f"ptr sret({{ i8, ptr }}) align {align}"
+                self.assertEqual(call, f"call void @rattle_realloc({place} %taken, ptr %block,"
+                                       f" {sizes})")
+                self.assertEqual((back, types), ("void", f"{place}, ptr" + f", i{bits}" * 3))
+                self.assertIn(f"getelementptr i8, ptr %taken, i{bits} {align}\n", text)
+
+    def test_two_registers_of_32_bits(self):
+        call, back, types, text = self.asked(32, REGISTERS)
+        self.assertEqual(call, "call [2 x i32] @rattle_realloc(ptr %block, i32 %kept.32,"
+                               " i32 %size.32, i32 %align.32)")
+        self.assertEqual((back, types), ("[2 x i32]", "ptr, i32, i32, i32"))
+        # only the lowest byte of the first has a meaning
+        self.assertIn("%flag = and i32 %first, 255\n  %flag.64 = zext i32 %flag to i64\n", text)
+        self.assertIn("%second.64 = zext i32 %second to i64\n", text)
+
+    def test_too_much_is_refused(self):
+        for bits, most in ((32, 0xFFFFFFFF), (64, 0xFFFFFFFFFFFFFFFF)):
+            self.assertEqual(rewritten(FRONT, bits, "", PLACE).count(
+                f"%is_large = icmp ugt i64 %size, {most}\n"), 2)
+
+    def test_the_modules_own(self):
+        line = "  %a = call { i64, i64 } @rattle_alloc(i64 1, i64 1)\n"
+        self.assertEqual(rewritten(FRONT + line, 64, "", REGISTERS), line)
+        self.assertIn("@wide.rattle_alloc(i64 1, i64 1)", rewritten(FRONT + line, 64, "", PLACE))
+
+    def test_a_code_has_its_sign(self):
+        line = "define noundef i32 @galliumtoad_f() #0 {\n}\ndefine noundef i32 @f() #0 {\n}\n"
+        self.assertEqual(rewritten(FRONT + line, 64, ""), line)
+        self.assertEqual(rewritten(FRONT + line, 64, "", REGISTERS, "riscv64-unknown-linux-gnu"),
+                         line.replace("noundef", "noundef signext", 1))
+
+    def test_windows_has_its_own_probes(self):
+        line = 'attributes #0 = { nounwind "probe-stack"="inline-asm" "a"="3" }\n'
+        self.assertEqual(rewritten(FRONT + line, 64, ""), line)
+        self.assertEqual(rewritten(FRONT + line, 64, "", REGISTERS, "x86_64-w64-windows-gnu"),
+                         'attributes #0 = { nounwind "a"="3" }\n')
 
 
 class Kits(unittest.TestCase):

@@ -3,11 +3,12 @@
 
 #include "arena.h"
 
-static uint64_t seed, sum;
+static uint64_t seed = 0x9E3779B97F4A7C15ULL, sum;
 
 /* What the line tells, in its order. */
-enum { MADE, ANSWERS, REFUSED, BROKEN, COUNTS };
-static const char *const NAMES[COUNTS] = { " calls ", " answers ", " refused ", " broken " };
+enum { MADE, ANSWERS, REFUSED, BROKEN, STACK, COUNTS };
+static const char *const NAMES[COUNTS] = { " calls ", " answers ", " refused ", " broken ",
+                                           " stack " };
 static uint32_t counts[COUNTS];
 
 uint32_t any(uint32_t n)
@@ -80,9 +81,10 @@ static const char *line(void)
 {
     static char text[120];
     char *to = text;
+    uint64_t left = sum;
     int i;
-    for (i = 60; i >= 0; i -= 4)
-        *to++ = "0123456789ABCDEF"[sum >> i & 15];
+    for (i = 0; i < 16; i++, left <<= 4)
+        *to++ = "0123456789ABCDEF"[left >> 60];
     for (i = 0; i < COUNTS; i++) {
         const char *from = NAMES[i];
         while (*from != 0)
@@ -94,9 +96,29 @@ static const char *line(void)
     return text;
 }
 
-const char *play(uint32_t most)
+#ifndef __wasm__ /* its stack has no address */
+/* The stack below a play is painted, except what the painter itself takes. */
+enum { NEAR = 256, DEPTH = 16384, PAINT = 0xA7 };
+
+static void paint(volatile uint8_t *from)
 {
-    seed = 0x9E3779B97F4A7C15ULL;
+    int i;
+    for (i = NEAR; i < DEPTH; i++)
+        from[-i] = PAINT;
+}
+
+/* How many bytes of the stack the play has written, from the first one to the deepest. */
+static uint32_t written_below(const volatile uint8_t *from)
+{
+    int i = DEPTH - 1;
+    while (i >= NEAR && from[-i] == PAINT)
+        i--;
+    return (uint32_t)i;
+}
+#endif
+
+static void play_parts(uint32_t most)
+{
     while (counts[MADE] < most) {
         read_bytes();
         talk();
@@ -105,5 +127,17 @@ const char *play(uint32_t most)
         if (gt_arena_used() != 0)
             count_broken();
     }
+}
+
+const char *play(uint32_t most)
+{
+#ifdef __wasm__
+    play_parts(most);
+#else
+    volatile uint8_t *from = __builtin_frame_address(0);
+    paint(from);
+    play_parts(most);
+    counts[STACK] = written_below(from);
+#endif
     return line();
 }

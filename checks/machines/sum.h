@@ -29,7 +29,8 @@ void read_bytes(void);
 void talk(void);
 void hold_session(void);
 
-/* Plays until `most` calls were made. Returns a line of the sum and of what was counted. */
+/* Plays until `most` calls were made, once in a program. Returns a line of the sum, of what was
+ * counted, and of the stack that it took. */
 const char *play(uint32_t most);
 
 #endif

@@ -33,12 +33,12 @@ static const char HELP[] =
 
 static bool makes_line;                         /* --pty */
 static const char *plans[PLANS_LIMIT + 1];      /* --plan, in order */
-static struct serial_options options = SERIAL_OPTIONS(PORT_NONE);
+static struct serial_options options = SERIAL_OPTIONS(GT_PORT_NONE);
 
 static const struct option OPTIONS[] = {
     { "--pty", OPTION_ON, &makes_line, 0, 0, NO_NAMES },
     { "--plan", OPTION_WORDS, plans, 0, PLANS_LIMIT, NO_NAMES },
-    SERIAL_ROWS(options, PORT_CTS, PORT_NONE),
+    SERIAL_ROWS(options, GT_PORT_CTS, GT_PORT_NONE),
 };
 
 /* Functions return this pointer if the card was reset. */
@@ -64,7 +64,7 @@ static const char *look(const struct socket *socket, bool is_held)
     const char *fault = NULL;
     if (socket->pty != NULL)
         return serial_pty_is_closed(socket->pty) ? LINE_IS_GONE : NULL;
-    if (socket->reset == PORT_NONE)
+    if (socket->reset == GT_PORT_NONE)
         return NULL;
     fault = gt_port_look(socket->line->port, socket->reset, &is_on);
     if (fault != NULL)
@@ -89,7 +89,7 @@ static const char *await_reset(const struct socket *socket, const char *before)
     struct serial_pty *pty = socket->pty;
     const bool is_mute = before != NULL && before != IS_RESET && before != LINE_IS_GONE;
     const char *fault = NULL;
-    if (pty == NULL && (before == LINE_IS_GONE || socket->reset == PORT_NONE))
+    if (pty == NULL && (before == LINE_IS_GONE || socket->reset == GT_PORT_NONE))
         return before;
     if (is_mute)
         program_tell(before);
@@ -109,7 +109,7 @@ static const char *await_reset(const struct socket *socket, const char *before)
 /* Receives a character. The card waits for it without a limit, or until a reset. */
 static const char *receive(const struct socket *socket, uint8_t *byte)
 {
-    const int64_t wait = socket->reset == PORT_NONE ? WAITS_FOR : LOOKS_EVERY;
+    const int64_t wait = socket->reset == GT_PORT_NONE ? WAITS_FOR : LOOKS_EVERY;
     const char *what;
     do
         what = line_receive(socket->line, byte, wait);
@@ -343,7 +343,7 @@ static int serve(struct gt_port *port, struct serial_pty *pty, struct table *tab
                  const gt_atr *says)
 {
     struct line line = serial_options_line(&options, port, LINE_CARD);
-    struct socket socket = { NULL, NULL, NULL, NULL, PORT_NONE, false, 0, 0 };
+    struct socket socket = { NULL, NULL, NULL, NULL, GT_PORT_NONE, false, 0, 0 };
     const char *what = NULL, *fault;
     if (pty != NULL && options.has_echo)
         line.echo = LINE_GIVES_ECHO;
@@ -352,7 +352,7 @@ static int serve(struct gt_port *port, struct serial_pty *pty, struct table *tab
     socket.pty = pty;
     socket.table = table;
     socket.says = says;
-    socket.reset = port->is_pseudo ? PORT_NONE : (enum gt_port_signal)options.reset;
+    socket.reset = port->is_pseudo ? GT_PORT_NONE : (enum gt_port_signal)options.reset;
     socket.is_held_by_on = options.is_held_by_on;
     socket.baud = options.baud;
     while ((fault = await_reset(&socket, what)) == NULL) {

@@ -3,6 +3,7 @@
 
 #include "gt_port.h"
 #include "gt_port_system.h"
+#include "text.h"
 
 #include <errno.h>
 #include <fcntl.h>
@@ -41,8 +42,8 @@ void gt_port_sleep_until(int64_t then)
     int64_t left;
     while ((left = then - gt_port_now()) > 0) {
         struct timespec pause;
-        pause.tv_sec = left / SECOND;
-        pause.tv_nsec = left % SECOND * 1000;
+        pause.tv_sec = (time_t)(left / SECOND);
+        pause.tv_nsec = (long)(left % SECOND * 1000);
         nanosleep(&pause, NULL);
     }
 }
@@ -67,18 +68,18 @@ void gt_port_put_back(struct gt_port *port)
 }
 
 /* The text of `errno`. */
-static const char *error_text(struct text *place)
+static const char *error_text(char place[TEXT_ROOM])
 {
     const int number = errno;
-    if (strerror_r(number, place->bytes, sizeof place->bytes) != 0)
+    if (strerror_r(number, place, TEXT_ROOM) != 0)
         text_put(place, "error %d", number);
-    return place->bytes;
+    return place;
 }
 
 static const char *tell_error(struct gt_port *port, const char *what)
 {
-    struct text why;
-    return text_put(&port->told, "%s: %s", what, error_text(&why));
+    char why[TEXT_ROOM];
+    return text_put(port->told, "%s: %s", what, error_text(why));
 }
 
 /* Characters unchanged, one by one. A tty with parity marks those with a wrong parity (FF 00 before
@@ -103,7 +104,7 @@ static bool is_near(unsigned long found, unsigned long wanted)
 
 static const char *tell_rate(struct gt_port *port, unsigned long baud)
 {
-    return text_put(&port->told, "the tty does not run at %lu baud", baud);
+    return text_put(port->told, "the tty does not run at %lu baud", baud);
 }
 
 const char *gt_port_set(struct gt_port *port, unsigned long baud, bool is_odd)
@@ -117,7 +118,7 @@ const char *gt_port_set(struct gt_port *port, unsigned long baud, bool is_odd)
     if (system_put(port->fd, &wanted) != 0 || system_get(port->fd, &found) != 0)
         return tell_error(port, "the tty refuses its settings");
     if (((found.c_cflag ^ wanted.c_cflag) & FORM) != 0)
-        return text_put(&port->told, "the tty does not take 8 bits, %s parity and 2 stop bits",
+        return text_put(port->told, "the tty does not take 8 bits, %s parity and 2 stop bits",
                         is_odd ? "odd" : "even");
     if (is_near(system_rate_in(&found), baud) && is_near(system_rate_out(&found), baud))
         return NULL;
@@ -126,7 +127,7 @@ const char *gt_port_set(struct gt_port *port, unsigned long baud, bool is_odd)
 
 static const char *tell_holder(struct gt_port *port, long process)
 {
-    return text_put_quoted(&port->told, text_put(&port->told, "process %ld has ", process),
+    return text_put_quoted(port->told, text_put(port->told, "process %ld has ", process),
                            port->name, "");
 }
 
@@ -156,16 +157,16 @@ static const char *keep_for_itself(struct gt_port *port)
 static const char *open_tty(struct gt_port *port)
 {
     const long holder = system_holder_of(port->name);
-    struct text why;
+    char why[TEXT_ROOM];
     if (holder > 0)
         return tell_holder(port, holder);
     port->fd = open(port->name, O_RDWR | O_NOCTTY | O_NONBLOCK | O_CLOEXEC);
     if (port->fd < 0)
-        return text_put_fault(&port->told, "the tty cannot be opened", port->name,
-                              error_text(&why));
+        return text_put_fault(port->told, "the tty cannot be opened", port->name,
+                              error_text(why));
     port->is_pseudo = port->is_fresh = system_is_pseudo(port->fd, port->name);
     return isatty(port->fd) ? lock(port)
-                            : text_put_quoted(&port->told, "", port->name, " is not a tty");
+                            : text_put_quoted(port->told, "", port->name, " is not a tty");
 }
 
 /* Keeps the earlier settings, and sets the tty. */
@@ -197,7 +198,7 @@ const char *gt_port_open(struct gt_port *port, const char *name, unsigned long b
     gt_port_init(port);
     port->baud = baud;
     if (strlen(name) >= sizeof port->name)
-        return text_put_quoted(&port->told, "the tty's name is too long: ", name, "");
+        return text_put_quoted(port->told, "the tty's name is too long: ", name, "");
     strcpy(port->name, name);
     return open_and_set(port);
 }
@@ -218,8 +219,8 @@ static const struct {
 static const char *tell_signal(struct gt_port *port, const char *what,
                                enum gt_port_signal signal)
 {
-    struct text text;
-    return tell_error(port, text_put(&text, "the tty does not %s its %s", what,
+    char text[TEXT_ROOM];
+    return tell_error(port, text_put(text, "the tty does not %s its %s", what,
                                      SIGNALS[signal].name));
 }
 
@@ -243,7 +244,7 @@ static const char *drive(struct gt_port *port, enum gt_port_signal signal, bool 
     fault = gt_port_look(port, signal, &found);
     if (fault != NULL || found == is_on)
         return fault;
-    return text_put(&port->told, "the tty does not set its %s", SIGNALS[signal].name);
+    return text_put(port->told, "the tty does not set its %s", SIGNALS[signal].name);
 }
 
 /* Resets the card at a pseudo terminal. */
@@ -296,16 +297,16 @@ static enum gt_port_result await(const struct gt_port *port, short events, int64
         struct pollfd wait = { 0, 0, 0 };
         int ready;
         if (now >= port->until)
-            return PORT_IS_LATE;
+            return GT_PORT_IS_LATE;
         wait.fd = port->fd;
         wait.events = events;
         ready = poll(&wait, 1, most > 0 ? (int)((most + MILLISECOND - 1) / MILLISECOND) : 0);
         if (ready > 0)
-            return PORT_IS_WELL;
+            return GT_PORT_IS_WELL;
         if (ready < 0 && errno != EINTR)
-            return PORT_IS_GONE;
+            return GT_PORT_IS_GONE;
         if (left <= 0)
-            return PORT_IS_SILENT;
+            return GT_PORT_IS_SILENT;
     }
 }
 
@@ -313,8 +314,8 @@ static enum gt_port_result await(const struct gt_port *port, short events, int64
 static enum gt_port_result result_of(ssize_t n)
 {
     if (n < 0 && (errno == EINTR || errno == EAGAIN))
-        return PORT_IS_SILENT;
-    return n > 0 ? PORT_IS_WELL : PORT_IS_GONE;
+        return GT_PORT_IS_SILENT;
+    return n > 0 ? GT_PORT_IS_WELL : GT_PORT_IS_GONE;
 }
 
 static enum gt_port_result read_byte(const struct gt_port *port, uint8_t *byte, int64_t then)
@@ -322,26 +323,26 @@ static enum gt_port_result read_byte(const struct gt_port *port, uint8_t *byte, 
     enum gt_port_result result;
     do {
         result = await(port, POLLIN, then);
-        if (result == PORT_IS_WELL)
+        if (result == GT_PORT_IS_WELL)
             result = result_of(read(port->fd, byte, 1));
-    } while (result == PORT_IS_SILENT && gt_port_now() < then);
+    } while (result == GT_PORT_IS_SILENT && gt_port_now() < then);
     return result;
 }
 
 enum gt_port_result gt_port_receive(struct gt_port *port, uint8_t *byte, bool *has_other_parity,
                                     int64_t then)
 {
-    enum gt_port_result result = port->is_cut ? PORT_IS_CUT : read_byte(port, byte, then);
+    enum gt_port_result result = port->is_cut ? GT_PORT_IS_CUT : read_byte(port, byte, then);
     *has_other_parity = false;
-    if (result != PORT_IS_WELL || port->is_pseudo || *byte != 0xFF)
+    if (result != GT_PORT_IS_WELL || port->is_pseudo || *byte != 0xFF)
         return result;
     result = read_byte(port, byte, gt_port_now() + MARK_LASTS);
-    if (result == PORT_IS_WELL && *byte != 0xFF) {
+    if (result == GT_PORT_IS_WELL && *byte != 0xFF) {
         *has_other_parity = true;
         result = read_byte(port, byte, gt_port_now() + MARK_LASTS);
     }
-    port->is_cut = result == PORT_IS_SILENT;
-    return port->is_cut ? PORT_IS_CUT : result;
+    port->is_cut = result == GT_PORT_IS_SILENT;
+    return port->is_cut ? GT_PORT_IS_CUT : result;
 }
 
 /* Hands out as many as there is room for. */
@@ -349,10 +350,10 @@ static enum gt_port_result write_some(const struct gt_port *port, const uint8_t 
                                       size_t *gone, int64_t then)
 {
     enum gt_port_result result = await(port, POLLOUT, then);
-    if (result == PORT_IS_WELL) {
+    if (result == GT_PORT_IS_WELL) {
         const ssize_t moved = write(port->fd, bytes + *gone, n - *gone);
         result = result_of(moved);
-        if (result == PORT_IS_WELL)
+        if (result == GT_PORT_IS_WELL)
             *gone += (size_t)moved;
     }
     return result;
@@ -366,7 +367,7 @@ enum gt_port_result gt_port_send(const struct gt_port *port, const uint8_t *byte
     do
         result = write_some(port, bytes, n, &gone, then);
     while (gone < n
-           && (result == PORT_IS_WELL || (result == PORT_IS_SILENT && gt_port_now() < then)));
+           && (result == GT_PORT_IS_WELL || (result == GT_PORT_IS_SILENT && gt_port_now() < then)));
     return result;
 }
 

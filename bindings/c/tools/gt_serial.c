@@ -19,7 +19,7 @@ static bool asks_pps;
 static unsigned long protocol = 2;      /* --protocol; 2 without it */
 static unsigned long patience = SERIAL_PATIENCE;    /* --patience, in seconds */
 static const char *file;                /* -f, or NULL */
-static struct serial_options options = SERIAL_OPTIONS(PORT_RTS);
+static struct serial_options options = SERIAL_OPTIONS(GT_PORT_RTS);
 
 static const char *pass(void *line, gt_terminal *terminal, const struct operation *operation);
 static struct steps steps = { pass, NULL, false, false };
@@ -32,7 +32,7 @@ static const struct option OPTIONS[] = {
     { "--pps", OPTION_ON, &asks_pps, 0, 0, NO_NAMES },
     { "--quiet", OPTION_NUMBER, &options.quiet, LINE_LATE, SERIAL_QUIET_MOST, NO_NAMES },
     { "--patience", OPTION_NUMBER, &patience, 1, SERIAL_PATIENCE_MOST, NO_NAMES },
-    SERIAL_ROWS(options, PORT_NONE, PORT_DTR),
+    SERIAL_ROWS(options, GT_PORT_NONE, GT_PORT_DTR),
 };
 
 /* A card behind a line. */

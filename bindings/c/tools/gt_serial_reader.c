@@ -20,9 +20,14 @@ __attribute__((weak, format(printf, 2, 3))) void log_msg(const int priority, con
 /* as many readers as a pcscd has, each with one slot: the upper half of its number counts them */
 enum { READERS_LIMIT = PCSCLITE_MAX_READERS_CONTEXTS, READER_BITS = 16 };
 
-/* the class of pcscd's messages for errors, and the request for a list of features (PC/SC, part
- * 10) */
-enum { LOG_ERROR = 2, GET_FEATURES = 0x42000000 + 3400 };
+/* the class of pcscd's messages for errors */
+enum { LOG_ERROR = 2 };
+
+/* Requests of PC/SC, part 10: for a list of features, whose number is fixed, and for a list of
+ * properties, whose number the first list holds. The tags of that feature and of a property: the
+ * most data of a command. */
+enum { GET_FEATURES = 0x42000000 + 3400, GET_PROPERTIES = 0x42000000 + 3401 };
+enum { HAS_PROPERTIES = 0x12, MOST_DATA = 0x0A, LONG_DATA = 65536 };
 
 static struct place {
     bool is_used;
@@ -179,7 +184,7 @@ static RESPONSECODE code_of(struct serial_reader *reader)
     if (fault != NULL)
         tell(reader, fault);
     switch (state) {
-    case SERIAL_READER_GONE: return IFD_NO_SUCH_DEVICE;
+    case SERIAL_READER_REMOVED: return IFD_NO_SUCH_DEVICE;
     case SERIAL_READER_EMPTY: return IFD_ICC_NOT_PRESENT;
     default: return IFD_COMMUNICATION_ERROR;
     }
@@ -210,29 +215,60 @@ RESPONSECODE IFDHTransmitToICC(DWORD Lun, SCARD_IO_HEADER SendPci, PUCHAR TxBuff
     return fault == SERIAL_READER_ROOM ? IFD_ERROR_INSUFFICIENT_BUFFER : code_of(reader);
 }
 
-/* A reader has no features: it tells none to who asks for them. */
+/* Puts a list of one number: its tag, its size and its bytes. */
+static RESPONSECODE put_number(UCHAR tag, const UCHAR bytes[4], DWORD room, PUCHAR list,
+                               LPDWORD size)
+{
+    if (room < 6)
+        return IFD_ERROR_INSUFFICIENT_BUFFER;
+    list[0] = tag;
+    list[1] = 4;
+    memcpy(list + 2, bytes, 4);
+    *size = 6;
+    return IFD_SUCCESS;
+}
+
+/* The only feature is the list of properties, and the only property the most data of a command: at
+ * T=0 those of a short one. Requests begin with their highest byte, properties end with it. */
 RESPONSECODE IFDHControl(DWORD Lun, DWORD ControlCode, PUCHAR TxBuffer, DWORD TxLength,
                          PUCHAR RxBuffer, DWORD RxLength, LPDWORD BytesReturned)
 {
-    (void)Lun;
+    const struct serial_reader *reader = reader_of(Lun);
+    static const UCHAR REQUEST[] = { GET_PROPERTIES >> 24, GET_PROPERTIES >> 16 & 0xFF,
+                                     GET_PROPERTIES >> 8 & 0xFF, GET_PROPERTIES & 0xFF };
+    static const UCHAR EXTENDED[] = { 0, 0, LONG_DATA >> 16, 0 }, SHORT_ALONE[4] = { 0 };
+    bool is_short;
     (void)TxBuffer;
     (void)TxLength;
-    (void)RxBuffer;
-    (void)RxLength;
     *BytesReturned = 0;
-    return ControlCode == GET_FEATURES ? IFD_SUCCESS : IFD_ERROR_NOT_SUPPORTED;
+    if (reader == NULL)
+        return IFD_NO_SUCH_DEVICE;
+    switch (ControlCode) {
+    case GET_FEATURES:
+        return put_number(HAS_PROPERTIES, REQUEST, RxLength, RxBuffer, BytesReturned);
+    case GET_PROPERTIES:
+        is_short = reader->has_begun && reader->protocol == 0;
+        return put_number(MOST_DATA, is_short ? SHORT_ALONE : EXTENDED, RxLength, RxBuffer,
+                          BytesReturned);
+    default:
+        return IFD_ERROR_NOT_SUPPORTED;
+    }
 }
 
-/* A tty that is gone shows an empty slot, and the log has the reason once. For any other code pcscd
- * drops a reader that it has just added, and later logs two lines at each look. */
+/* A tty that was there and is gone is a reader that was removed, until it is back. One that was
+ * never there shows an empty slot: for any other code pcscd drops a reader that it has just added.
+ * The log has the reason once. */
 RESPONSECODE IFDHICCPresence(DWORD Lun)
 {
     struct serial_reader *reader = reader_of(Lun);
+    enum serial_reader_state state;
     const char *fault;
     if (reader == NULL)
         return IFD_NO_SUCH_DEVICE;
-    serial_reader_look(reader, &fault);
+    state = serial_reader_look(reader, &fault);
     if (fault != NULL)
         tell(reader, fault);
+    if (state == SERIAL_READER_REMOVED)
+        return IFD_NO_SUCH_DEVICE;
     return serial_reader_is_lost(reader) ? IFD_ICC_NOT_PRESENT : IFD_ICC_PRESENT;
 }

@@ -25,7 +25,7 @@ static const struct option SHARED[] = {
 /* the program that runs */
 static const struct program *own;
 
-struct text program_told;
+char program_told[TEXT_ROOM];
 
 int program_tell(const char *fault)
 {

@@ -50,10 +50,10 @@ struct program {
 int program_main(const struct program *program, int argc, char **argv);
 
 /* The program's own place for the texts of text.h. A text stays until the next one. */
-extern struct text program_told;
-#define text_told(...) text_put(&program_told, __VA_ARGS__)
-#define text_quoted(before, word, behind) text_put_quoted(&program_told, before, word, behind)
-#define text_fault(what, word, why) text_put_fault(&program_told, what, word, why)
+extern char program_told[TEXT_ROOM];
+#define text_told(...) text_put(program_told, __VA_ARGS__)
+#define text_quoted(before, word, behind) text_put_quoted(program_told, before, word, behind)
+#define text_fault(what, word, why) text_put_fault(program_told, what, word, why)
 
 /* Prints a fault, and returns the exit status. */
 int program_tell(const char *fault);

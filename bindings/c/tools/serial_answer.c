@@ -33,7 +33,7 @@ int64_t answer_waiting_time(const struct answer *answer)
 /* Whether the port resets the card. */
 static bool is_driven(const struct line *line, const struct answer_wishes *wishes)
 {
-    return line->port->is_pseudo ? wishes->opens_again : wishes->reset != PORT_NONE;
+    return line->port->is_pseudo ? wishes->opens_again : wishes->reset != GT_PORT_NONE;
 }
 
 /* Resets the card, and forgets its earlier answers. */
@@ -51,7 +51,7 @@ static const char *reset(struct answer *answer, const struct answer_wishes *wish
 
 static const char *tell_none(struct answer *answer, int32_t code, size_t place)
 {
-    return text_put(&answer->line->port->told, "the answer to reset is invalid: %s, at byte %lu",
+    return text_put(answer->line->port->told, "the answer to reset is invalid: %s, at byte %lu",
                     gt_text(code), (unsigned long)place + 1);
 }
 
@@ -93,7 +93,7 @@ static const char *take_others(struct answer *answer)
             ? TOO_LONG
             : line_receive(answer->line, &answer->bytes[answer->n], wait);
         if (fault == LINE_IS_SILENT)
-            return text_put(&answer->line->port->told, "the answer to reset stops after byte %lu",
+            return text_put(answer->line->port->told, "the answer to reset stops after byte %lu",
                             (unsigned long)answer->n);
         if (fault != NULL)
             return fault;
@@ -121,7 +121,7 @@ const char *answer_take(struct answer *answer, struct line *line,
     answer->line = line;
     answer->baud = line->baud;
     answer->clock = wishes->clock > 0 ? wishes->clock : line->baud * ANSWER_CYCLES;
-    if (line->port->is_pseudo || wishes->reset != PORT_NONE)
+    if (line->port->is_pseudo || wishes->reset != GT_PORT_NONE)
         wait = cycles(answer, BEGINS_BEFORE) + line->slack;
     fault = reset(answer, wishes);
     if (fault != NULL)

@@ -17,7 +17,7 @@
 
 /* How the card is reset. */
 struct answer_wishes {
-    enum gt_port_signal reset;     /* the line that does it, or PORT_NONE */
+    enum gt_port_signal reset;     /* the line that does it, or GT_PORT_NONE */
     bool is_held_by_on;         /* it holds the card in reset while it is on */
     bool opens_again;           /* a pseudo terminal is opened again for it, unless it is fresh */
     int64_t patience;           /* how long somebody may take to reset the card by hand */

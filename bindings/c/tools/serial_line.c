@@ -93,10 +93,10 @@ static int64_t later(int64_t one, int64_t other)
 static const char *text_of(enum gt_port_result result)
 {
     switch (result) {
-    case PORT_IS_WELL: return NULL;
-    case PORT_IS_SILENT: return LINE_IS_SILENT;
-    case PORT_IS_LATE: return LINE_IS_LATE;
-    case PORT_IS_CUT: return LINE_HAS_WRONG_PARITY;
+    case GT_PORT_IS_WELL: return NULL;
+    case GT_PORT_IS_SILENT: return LINE_IS_SILENT;
+    case GT_PORT_IS_LATE: return LINE_IS_LATE;
+    case GT_PORT_IS_CUT: return LINE_HAS_WRONG_PARITY;
     default: return LINE_IS_GONE;
     }
 }
@@ -106,22 +106,22 @@ static enum gt_port_result read_port(struct line *line, uint8_t *raw, bool *has_
                                   int64_t then)
 {
     const enum gt_port_result result = gt_port_receive(line->port, raw, has_other_parity, then);
-    line->is_early |= result == PORT_IS_WELL && gt_port_now() < line->quiet_until;
+    line->is_early |= result == GT_PORT_IS_WELL && gt_port_now() < line->quiet_until;
     return result;
 }
 
 /* Reads the characters that are there, and waits until then for the first `wanted` ones. */
 static enum gt_port_result come_in(struct line *line, size_t wanted, int64_t then)
 {
-    enum gt_port_result result = PORT_IS_WELL;
-    while (line->come_count < LINE_RUN && result == PORT_IS_WELL) {
+    enum gt_port_result result = GT_PORT_IS_WELL;
+    while (line->come_count < LINE_RUN && result == GT_PORT_IS_WELL) {
         struct line_character *next = &line->come[line->come_count];
         result = read_port(line, &next->raw, &next->has_other_parity,
                            line->come_count < wanted ? then : 0);
-        if (result == PORT_IS_WELL)
+        if (result == GT_PORT_IS_WELL)
             line->come_count++;
     }
-    return line->come_count >= wanted ? PORT_IS_WELL : result;
+    return line->come_count >= wanted ? GT_PORT_IS_WELL : result;
 }
 
 static enum line_end other_of(const struct line *line)
@@ -145,8 +145,8 @@ static void note_first(struct line *line)
 const char *line_refuse_early(struct line *line, int64_t wait)
 {
     const enum gt_port_result result = come_in(line, 1, gt_port_now() + wait);
-    if (result != PORT_IS_WELL)
-        return result == PORT_IS_SILENT ? NULL : text_of(result);
+    if (result != GT_PORT_IS_WELL)
+        return result == GT_PORT_IS_SILENT ? NULL : text_of(result);
     note_first(line);
     return line->sent_until == 0 ? "a byte after the answer to reset" : UNEXPECTED;
 }
@@ -164,10 +164,10 @@ const char *line_drop(struct line *line, int64_t first, int64_t quiet)
         const enum gt_port_result result = come_in(line, 1, gt_port_now() + wait);
         for (; line->come_count > 0; remove_first(line, 1))
             note_first(line);
-        if (result == PORT_IS_GONE)
+        if (result == GT_PORT_IS_GONE)
             return LINE_IS_GONE;
-        if (result != PORT_IS_WELL)
-            return i == 0 && result == PORT_IS_SILENT ? NULL : LINE_IS_BROKEN;
+        if (result != GT_PORT_IS_WELL)
+            return i == 0 && result == GT_PORT_IS_SILENT ? NULL : LINE_IS_BROKEN;
         wait = quiet;
     }
     return "the other end does not stop sending";
@@ -271,7 +271,7 @@ static const char *hand_out(struct line *line, const uint8_t *raw, size_t n)
     result = gt_port_send(line->port, raw, n, gt_port_now() + length + line->slack);
     line->sent_until = gt_port_now() + length;
     line->free_from = line->sent_until + line->guard;
-    return result == PORT_IS_SILENT ? "the tty takes no more characters" : text_of(result);
+    return result == GT_PORT_IS_SILENT ? "the tty takes no more characters" : text_of(result);
 }
 
 /* Takes the echo of a byte, which was sent by then. */
@@ -281,9 +281,9 @@ static const char *take_echo(struct line *line, uint8_t raw, int64_t then)
     bool has_other_parity;
     const enum gt_port_result result =
         read_port(line, &found, &has_other_parity, then + line->slack);
-    if (result == PORT_IS_SILENT)
+    if (result == GT_PORT_IS_SILENT)
         return "there is no echo";
-    if (result != PORT_IS_WELL)
+    if (result != GT_PORT_IS_WELL)
         return text_of(result);
     if (found != raw || has_other_parity)
         return "the echo differs from what was sent";
@@ -347,7 +347,7 @@ static void note_turn(struct line *line)
 const char *line_receive_first(struct line *line, uint8_t *byte, bool *has_other_parity,
                                int64_t wait)
 {
-    enum gt_port_result result = PORT_IS_WELL;
+    enum gt_port_result result = GT_PORT_IS_WELL;
     if (line->come_count == 0)
         result = read_port(line, byte, has_other_parity, waits_until(line, wait));
     else {
@@ -395,7 +395,7 @@ const char *line_refuse_echo(struct line *line, size_t n, int64_t wait)
         return NULL;
     for (same = 0; same < n; same++) {
         const enum gt_port_result result = come_in(line, same + 1, then);
-        if (result != PORT_IS_WELL)
+        if (result != GT_PORT_IS_WELL)
             return same == 0 ? text_of(result) : NULL;
         if (by_convention(line, line->come[same].raw) != line->sent[same])
             return NULL;
@@ -414,8 +414,8 @@ const char *line_refuse_more(struct line *line, int64_t wait)
     line->port->until = INT64_MAX;
     result = come_in(line, 1, waits_until(line, wait));
     line->port->until = until;
-    if (result != PORT_IS_WELL)
-        return result == PORT_IS_SILENT ? NULL : text_of(result);
+    if (result != GT_PORT_IS_WELL)
+        return result == GT_PORT_IS_SILENT ? NULL : text_of(result);
     note_first(line);
     return LINE_ECHOES;
 }
@@ -424,7 +424,7 @@ const char *line_look(struct line *line, uint8_t bytes[LINE_RUN], size_t *n, int
 {
     const enum gt_port_result result = come_in(line, 1, waits_until(line, wait));
     *n = 0;
-    if (result != PORT_IS_WELL)
+    if (result != GT_PORT_IS_WELL)
         return text_of(result);
     while (!line->is_early && *n < line->come_count
            && is_well(line, line->come[*n].has_other_parity)) {

@@ -2,6 +2,7 @@
 #define _DEFAULT_SOURCE
 
 #include "serial_pty.h"
+#include "text.h"
 
 #include <errno.h>
 #include <fcntl.h>
@@ -16,7 +17,7 @@
 
 static const char *tell_none(struct serial_pty *pty)
 {
-    return text_put(&pty->port.told, "no pseudo terminal: %s", strerror(errno));
+    return text_put(pty->port.told, "no pseudo terminal: %s", strerror(errno));
 }
 
 /* Sets the near end to pass all characters on unchanged, and drops those on the way. */

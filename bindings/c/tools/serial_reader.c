@@ -14,14 +14,14 @@ const char *serial_reader_init(struct serial_reader *reader, const char *device)
 {
     memset(reader, 0, sizeof *reader);
     gt_port_init(&reader->port);
-    return serial_settings_read(&reader->settings, device, &reader->port.told);
+    return serial_settings_read(&reader->settings, device, reader->port.told);
 }
 
 /* The line of the reader, as after a reset. */
 static struct line make_line(struct serial_reader *reader)
 {
     const struct serial_settings *settings = &reader->settings;
-    struct serial_options options = SERIAL_OPTIONS(PORT_NONE);
+    struct serial_options options = SERIAL_OPTIONS(GT_PORT_NONE);
     struct line line;
     options.has_echo = settings->echo;
     options.baud = settings->baud;
@@ -42,13 +42,15 @@ static void lose(struct serial_reader *reader)
 /* Opens the tty, if it is not open or is gone. One that is back at once has another card. */
 static const char *open_port(struct serial_reader *reader)
 {
+    const char *fault = NULL;
     if (reader->port.fd >= 0 && gt_port_is_gone(&reader->port)) {
         lose(reader);
         gt_port_close(&reader->port);
     }
-    return reader->port.fd >= 0 ? NULL
-                                : gt_port_open(&reader->port, reader->settings.tty,
-                                               reader->settings.baud);
+    if (reader->port.fd < 0)
+        fault = gt_port_open(&reader->port, reader->settings.tty, reader->settings.baud);
+    reader->was_open |= fault == NULL;
+    return fault;
 }
 
 /* Whether the line of the settings shows a card. */
@@ -57,7 +59,7 @@ static const char *look_at_line(struct serial_reader *reader, bool *is_present)
     const struct serial_settings *settings = &reader->settings;
     const char *fault = NULL;
     *is_present = true;
-    if (settings->presence == PORT_NONE)
+    if (settings->presence == GT_PORT_NONE)
         return NULL;
     fault = gt_port_look(&reader->port, (enum gt_port_signal)settings->presence, is_present);
     *is_present = *is_present == (bool)settings->present_by;
@@ -77,11 +79,10 @@ enum serial_reader_state serial_reader_look(struct serial_reader *reader, const 
         reader->is_told = true;
         *fault = why;
     }
-    if (why != NULL || !is_present)
-        lose(reader);
-    if (why != NULL)
-        return SERIAL_READER_GONE;
-    return is_present ? SERIAL_READER_HAS_CARD : SERIAL_READER_EMPTY;
+    if (why == NULL && is_present)
+        return SERIAL_READER_HAS_CARD;
+    lose(reader);
+    return reader->was_open && reader->port.fd < 0 ? SERIAL_READER_REMOVED : SERIAL_READER_EMPTY;
 }
 
 bool serial_reader_is_lost(const struct serial_reader *reader)

@@ -12,8 +12,8 @@
 #define SERIAL_READER_ANSWER 65538
 
 enum serial_reader_state {
-    SERIAL_READER_GONE,         /* the tty can't be opened */
-    SERIAL_READER_EMPTY,
+    SERIAL_READER_REMOVED,      /* the tty was there, and can't be opened again */
+    SERIAL_READER_EMPTY,        /* so is one whose tty was never there */
     SERIAL_READER_HAS_CARD
 };
 
@@ -28,6 +28,7 @@ struct serial_reader {
     bool has_begun;             /* it talks `protocol` */
     int protocol;
     int64_t is_lost_until;      /* until then the slot counts as empty */
+    bool was_open;              /* its tty was there */
     bool is_told;               /* why the tty can't be used was reported */
 };
 

@@ -7,7 +7,7 @@
 
 /* the most bytes of a DEVICENAME with its NUL, more than pcscd reads, and the most digits of a
  * number */
-enum { TEXT_ROOM = 512, DIGITS = 9 };
+enum { DEVICE_ROOM = 512, DIGITS = 9 };
 
 static const char *const WORDS[] = { "no", "yes" };
 /* the lines that show a card, in the order of their numbers, and the number that none has */
@@ -21,10 +21,10 @@ static const struct row {
     unsigned long initial, least, most;
     const char *const *names;   /* of the values from `least` to `most`, or NULL: numbers */
 } ROWS[] = {
-    { "reset", FIELD(reset), PORT_RTS, PORT_RTS, PORT_DTR, SERIAL_SIGNALS },
+    { "reset", FIELD(reset), GT_PORT_RTS, GT_PORT_RTS, GT_PORT_DTR, SERIAL_SIGNALS },
     { "held-by", FIELD(held_by), 1, 0, 1, SERIAL_STATES },
     { "echo", FIELD(echo), 1, 0, 1, WORDS },
-    { "presence", FIELD(presence), PORT_NONE, PORT_CTS, PORT_NONE, PRESENCES },
+    { "presence", FIELD(presence), GT_PORT_NONE, GT_PORT_CTS, GT_PORT_NONE, PRESENCES },
     { "present-by", FIELD(present_by), 1, 0, 1, SERIAL_STATES },
     { "pps", FIELD(pps), 0, 0, 1, WORDS },
     { "baud", FIELD(baud), SERIAL_BAUD, SERIAL_BAUD_LEAST, SERIAL_BAUD_MOST, NULL },
@@ -57,22 +57,22 @@ static unsigned long value_of(const struct row *row, const char *word)
 }
 
 /* Why the row has no such value. */
-static const char *tell_value(const struct row *row, const char *word, struct text *told)
+static const char *tell_value(const struct row *row, const char *word, char told[TEXT_ROOM])
 {
-    struct text choice;
+    char choice[TEXT_ROOM];
     unsigned long value;
-    text_put(&choice, "; '%s' takes ", row->name);
+    text_put(choice, "; '%s' takes ", row->name);
     if (row->names == NULL)
-        text_put(&choice, "%sa number from %lu to %lu", choice.bytes, row->least, row->most);
+        text_put(choice, "%sa number from %lu to %lu", choice, row->least, row->most);
     for (value = row->least; row->names != NULL && value <= row->most; value++)
-        text_put(&choice, "%s%s%s", choice.bytes,
+        text_put(choice, "%s%s%s", choice,
                  value == row->least ? "" : value == row->most ? " or " : ", ", row->names[value]);
-    return text_put_quoted(told, "wrong setting: ", word, choice.bytes);
+    return text_put_quoted(told, "wrong setting: ", word, choice);
 }
 
 /* Reads a word `NAME=VALUE`. */
 static const char *read_word(struct serial_settings *settings, const char *word,
-                             struct text *told)
+                             char told[TEXT_ROOM])
 {
     const size_t n = strcspn(word, "=");
     size_t i;
@@ -87,7 +87,7 @@ static const char *read_word(struct serial_settings *settings, const char *word,
 }
 
 /* Reads the words after the tty. */
-static const char *read_words(struct serial_settings *settings, char *words, struct text *told)
+static const char *read_words(struct serial_settings *settings, char *words, char told[TEXT_ROOM])
 {
     const char *fault = NULL;
     while (*words != '\0' && fault == NULL) {
@@ -102,10 +102,10 @@ static const char *read_words(struct serial_settings *settings, char *words, str
 
 /* pcscd leaves the quotes around a text. */
 const char *serial_settings_read(struct serial_settings *settings, const char *text,
-                                 struct text *told)
+                                 char told[TEXT_ROOM])
 {
     const bool is_quoted = text[0] == '"';
-    char plain[TEXT_ROOM], *colon;
+    char plain[DEVICE_ROOM], *colon;
     size_t i, n = strlen(text);
     memset(settings, 0, sizeof *settings);
     for (i = 0; i < ROWS_COUNT; i++)

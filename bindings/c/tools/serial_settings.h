@@ -3,6 +3,7 @@
 #define SERIAL_SETTINGS_H
 
 #include "gt_port.h"
+#include "text.h"
 
 struct serial_settings {
     char tty[GT_PORT_NAME_ROOM];
@@ -15,6 +16,6 @@ struct serial_settings {
  * not set has its initial value. Returns NULL, or a few words that name the wrong word; they are in
  * `told`. */
 const char *serial_settings_read(struct serial_settings *settings, const char *text,
-                                 struct text *told);
+                                 char told[TEXT_ROOM]);
 
 #endif

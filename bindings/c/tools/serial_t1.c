@@ -62,7 +62,7 @@ static bool is_sound(const struct t1_block *block)
 static const char *tell(const struct t1_end *t1, const char *cause, int32_t known,
                         int32_t outcome)
 {
-    return text_put(&t1->line->port->told, "%s: %s", cause,
+    return text_put(t1->line->port->told, "%s: %s", cause,
                     OUTCOMES[outcome > known ? outcome : known]);
 }
 

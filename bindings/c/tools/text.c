@@ -84,26 +84,25 @@ const char *text_print_bytes(FILE *out, const char *mark, const uint8_t *bytes, 
 }
 
 /* A value may be the text of the place, so the next one is made in another. */
-const char *text_put(struct text *place, const char *format, ...)
+const char *text_put(char place[TEXT_ROOM], const char *format, ...)
 {
-    struct text text;
+    char text[TEXT_ROOM];
     va_list values;
     va_start(values, format);
-    vsnprintf(text.bytes, sizeof text.bytes, format, values);
+    vsnprintf(text, sizeof text, format, values);
     va_end(values);
-    *place = text;
-    return place->bytes;
+    return strcpy(place, text);
 }
 
-const char *text_put_quoted(struct text *place, const char *before, const char *word,
+const char *text_put_quoted(char place[TEXT_ROOM], const char *before, const char *word,
                             const char *behind)
 {
     text_put(place, "%s'%.60s%s'%s", before, word, strlen(word) > 60 ? ".." : "", behind);
-    text_calm(place->bytes);
-    return place->bytes;
+    text_calm(place);
+    return place;
 }
 
-const char *text_put_fault(struct text *place, const char *what, const char *word,
+const char *text_put_fault(char place[TEXT_ROOM], const char *what, const char *word,
                            const char *why)
 {
     char before[40], behind[200];

@@ -28,23 +28,21 @@ void text_print(FILE *out, const char *text);
  * words that say why that failed. */
 const char *text_print_bytes(FILE *out, const char *mark, const uint8_t *bytes, size_t n);
 
-/* A text of up to 399 bytes, and its NUL. */
-struct text {
-    char bytes[400];
-};
+/* The most bytes of a text, with its NUL. */
+enum { TEXT_ROOM = 400 };
 
 /* Each of these writes a text to its place, and returns that. A value may be the text there.
  *
  * The text of a format as of printf. */
-__attribute__((format(printf, 2, 3))) const char *text_put(struct text *place,
+__attribute__((format(printf, 2, 3))) const char *text_put(char place[TEXT_ROOM],
                                                            const char *format, ...);
 
 /* `BEFORE'WORD'BEHIND`, with the first 60 bytes of the word, as `text_calm` leaves it. */
-const char *text_put_quoted(struct text *place, const char *before, const char *word,
+const char *text_put_quoted(char place[TEXT_ROOM], const char *before, const char *word,
                             const char *behind);
 
 /* The same of a fault: `WHAT: 'WORD': WHY`. */
-const char *text_put_fault(struct text *place, const char *what, const char *word,
+const char *text_put_fault(char place[TEXT_ROOM], const char *what, const char *word,
                            const char *why);
 
 #endif

@@ -283,7 +283,7 @@ impl<'a> Atr<'a> {
             mode: Mode::of(told),
             clock_stop: ClockStop::of(told.clock_stop),
             classes: Classes::of(told.classes),
-            historical: &bytes[told.historical..told.historical + told.historical_count],
+            historical: &bytes[told.historical.0..][..told.historical_count.0],
             category: Category::of(told.category),
             protocols: told.protocols,
             protocol_count: usize::from(told.protocol_count),
@@ -390,7 +390,7 @@ impl BlockWaitingTime {
     fn of(told: &raw::Atr) -> Option<BlockWaitingTime> {
         (told.t1.bwt_etu != 0).then_some(BlockWaitingTime {
             etu: told.t1.bwt_etu,
-            cycles: told.t1.bwt_cycles,
+            cycles: told.t1.bwt_cycles.0,
         })
     }
 }

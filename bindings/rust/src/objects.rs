@@ -95,9 +95,9 @@ impl<'a> Object<'a> {
             tag: told.tag,
             level: told.level,
             is_constructed: told.constructed != 0,
-            place: told.place,
-            size: told.size,
-            value: &bytes[told.value..told.value + told.length],
+            place: told.place.0,
+            size: told.size.0,
+            value: &bytes[told.value.0..][..told.length.0],
         }
     }
 

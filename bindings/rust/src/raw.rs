@@ -15,13 +15,24 @@ use core::cell::UnsafeCell;
 use core::ffi::c_void;
 use core::fmt;
 use core::marker::PhantomData;
+use core::mem::size_of;
 use core::ops::Deref;
+
+/// A field that begins at a multiple of 8, as `GT_AT_8_` of the header has it: a size or a pointer
+/// of 32 bits has room for 64, and the library writes all of them.
+#[repr(C, align(8))]
+#[derive(Clone, Copy, Debug, Default)]
+pub struct At8<T>(pub T);
+
+// the header's layout of 64-bit targets, on each target
+const _: () = assert!(size_of::<Held>() == 16 && size_of::<Object>() == 40);
+const _: () = assert!(size_of::<Atr>() == 96 && size_of::<AtrT1>() == 24);
 
 /// What C sees of a handle: 16 bytes that only the library reads or writes.
 #[repr(C)]
 pub struct Held {
     live: bool,
-    held: *mut c_void,
+    held: At8<*mut c_void>,
 }
 
 /// A kind of handle, and the function that a drop passes one of this kind to.
@@ -54,7 +65,7 @@ impl<K: Kind> Handle<K> {
     /// If the library does not fit this crate: see `version_fits`.
     pub fn empty() -> Handle<K> {
         version::look();
-        let (live, held) = (false, core::ptr::null_mut());
+        let (live, held) = (false, At8(core::ptr::null_mut()));
         let held = UnsafeCell::new(Held { live, held });
         let kind = PhantomData;
         Handle { held, kind }
@@ -81,19 +92,19 @@ pub struct Object {
     pub tag: u32,
     pub level: u8,
     pub constructed: u8,
-    pub place: usize,
-    pub size: usize,
-    pub value: usize,
-    pub length: usize,
+    pub place: At8<usize>,
+    pub size: At8<usize>,
+    pub value: At8<usize>,
+    pub length: At8<usize>,
 }
 
 /// `gt_atr` of the header.
 #[repr(C)]
 #[derive(Clone, Copy, Debug, Default)]
 pub struct Atr {
-    pub length: usize,
-    pub historical: usize,
-    pub historical_count: usize,
+    pub length: At8<usize>,
+    pub historical: At8<usize>,
+    pub historical_count: At8<usize>,
     pub category: u8,
     pub convention: u8,
     pub protocol_count: u8,
@@ -129,7 +140,7 @@ pub struct AtrT1 {
     pub cwt_etu: u16,
     pub bwt_etu: u16,
     pub bgt_etu: u16,
-    pub bwt_cycles: u64,
+    pub bwt_cycles: At8<u64>,
 }
 
 /// `gt_character` of the header.

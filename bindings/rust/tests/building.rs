@@ -88,6 +88,24 @@ fn targets_with_an_archive_link_it() {
     }
 }
 
+/// Of 32 bits the target's name counts.
+#[test]
+fn targets_of_32_bits_link_theirs() {
+    let script = script("narrow");
+    for (target, folder) in [
+        ("thumbv7em-none-eabi", "thumbv7em-none-eabi"),
+        ("thumbv7m-none-eabi", "thumbv6m-none-eabi"),
+        ("thumbv6m-none-eabi", "thumbv6m-none-eabi"),
+        ("armv7-unknown-linux-gnueabihf", "arm-linux-gnu"),
+        ("i686-unknown-linux-gnu", "i686-linux-gnu"),
+    ] {
+        let width = ("CARGO_CFG_TARGET_POINTER_WIDTH", "32".as_ref());
+        let (passes, says, _) = prints(&script, &[("TARGET", target.as_ref()), width]);
+        assert!(passes && says.contains(ARCHIVE), "{says}");
+        assert!(says.contains(&format!("/machines/{folder}\n")), "{says}");
+    }
+}
+
 /// A package without archives is refused, with the reason. Cargo adds `Cargo.toml.orig` to each.
 #[test]
 fn a_package_has_the_archives() {

@@ -50,7 +50,7 @@ impl Eager for Counter {
         Ok(status_of(header))
     }
 
-    fn copy(&self) -> Result<Counter, AllocError> {
+    fn copy(&mut self) -> Result<Counter, AllocError> {
         Ok(Counter { count: self.count })
     }
 

@@ -9,3 +9,4 @@ mod t1;
 mod terminal;
 mod tlv;
 mod tools;
+mod ways;

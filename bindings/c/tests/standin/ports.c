@@ -1,4 +1,4 @@
-/* Two ports of one program (tools/gt_port.h), each at a pseudo terminal: neither changes what the
+/* Two ports of one program (include/gt_port.h), each at a pseudo terminal: neither changes what the
  * other keeps, and no signal is caught. */
 #define _XOPEN_SOURCE 700
 #define _DEFAULT_SOURCE
@@ -58,15 +58,15 @@ static void carries(struct gt_port *port, const struct pair *pair, uint8_t byte)
     const int64_t then = gt_port_now() + A_WHILE;
     uint8_t found = 0;
     bool has_other_parity = true;
-    CHECK(gt_port_send(port, &byte, 1, then), PORT_IS_WELL);
+    CHECK(gt_port_send(port, &byte, 1, then), GT_PORT_IS_WELL);
     CHECK(read(pair->far, &found, 1), 1);
     CHECK(found, byte);
     byte ^= 0xFF;
     CHECK(write(pair->far, &byte, 1), 1);
-    CHECK(gt_port_receive(port, &found, &has_other_parity, then), PORT_IS_WELL);
+    CHECK(gt_port_receive(port, &found, &has_other_parity, then), GT_PORT_IS_WELL);
     CHECK(found, byte);
     CHECK(has_other_parity, 0);
-    CHECK(gt_port_receive(port, &found, &has_other_parity, 0), PORT_IS_SILENT);
+    CHECK(gt_port_receive(port, &found, &has_other_parity, 0), GT_PORT_IS_SILENT);
 }
 
 /* A reset leaves the other port as it is. A pseudo terminal that was just opened is not opened
@@ -75,16 +75,16 @@ static void reset(struct gt_port *port, const struct pair *other)
 {
     uint8_t found;
     bool is_odd;
-    CHECK(gt_port_reset(port, PORT_RTS, true) == NULL, 1);
+    CHECK(gt_port_reset(port, GT_PORT_RTS, true) == NULL, 1);
     CHECK(port->is_fresh, 0);
     port->until = gt_port_now() + A_WHILE;
-    CHECK(gt_port_reset(port, PORT_RTS, true) == NULL, 1);
+    CHECK(gt_port_reset(port, GT_PORT_RTS, true) == NULL, 1);
     CHECK(port->fd >= 0, 1);
     CHECK(port->until < INT64_MAX, 1);
-    CHECK(gt_port_receive(port, &found, &is_odd, 0), PORT_IS_SILENT);
+    CHECK(gt_port_receive(port, &found, &is_odd, 0), GT_PORT_IS_SILENT);
     CHECK(is_raw(other), 1);
     port->until = gt_port_now();
-    CHECK(gt_port_receive(port, &found, &is_odd, gt_port_now() + A_WHILE), PORT_IS_LATE);
+    CHECK(gt_port_receive(port, &found, &is_odd, gt_port_now() + A_WHILE), GT_PORT_IS_LATE);
     port->until = INT64_MAX;
 }
 
@@ -98,7 +98,7 @@ static void tells(struct gt_port *one, const char *name)
     CHECK(fault != NULL && strcmp(fault, WHAT) == 0, 1);
     CHECK(third.fd, -1);
     snprintf(held, sizeof held, "process %ld has '%s'", (long)getpid(), name);
-    second = gt_port_look(one, PORT_CTS, &(bool){ false });
+    second = gt_port_look(one, GT_PORT_CTS, &(bool){ false });
     CHECK(second != NULL && strstr(second, "the tty does not return its CTS: ") == second, 1);
     CHECK(strcmp(fault, WHAT), 0);
 #ifndef GT_PORT_BY_TERMIOS

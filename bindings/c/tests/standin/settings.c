@@ -5,13 +5,13 @@
 #include "serial_settings.h"
 
 static struct serial_settings found;
-static struct text told;
+static char told[TEXT_ROOM];
 
 /* Whether the text is read. */
 static int reads(const char *text)
 {
-    const char *fault = serial_settings_read(&found, text, &told);
-    if (fault != NULL && fault != told.bytes)
+    const char *fault = serial_settings_read(&found, text, told);
+    if (fault != NULL && fault != told)
         printf("the fault of %s is elsewhere\n", text);
     return fault == NULL;
 }
@@ -21,9 +21,9 @@ static int refuses(const char *text, const char *words)
 {
     if (reads(text))
         return 0;
-    if (strcmp(told.bytes, words) == 0)
+    if (strcmp(told, words) == 0)
         return 1;
-    printf("%s: %s\n", text, told.bytes);
+    printf("%s: %s\n", text, told);
     return 0;
 }
 
@@ -57,24 +57,24 @@ static void long_names(void)
     text[GT_PORT_NAME_ROOM - 1] = 'x';
     text[GT_PORT_NAME_ROOM] = '\0';
     CHECK(reads(text), 0);
-    CHECK(strncmp(told.bytes, "no tty: 'xxx", 12), 0);
+    CHECK(strncmp(told, "no tty: 'xxx", 12), 0);
     text[GT_PORT_NAME_ROOM] = 'x';
     text[511] = '\0';
     CHECK(reads(text), 0);
-    CHECK(strncmp(told.bytes, "no tty: 'xxx", 12), 0);
+    CHECK(strncmp(told, "no tty: 'xxx", 12), 0);
     text[511] = 'x';
     text[sizeof text - 1] = '\0';
     CHECK(reads(text), 0);
-    CHECK(strncmp(told.bytes, "too long: 'xxx", 14), 0);
+    CHECK(strncmp(told, "too long: 'xxx", 14), 0);
 }
 
 static void initial(void)
 {
     CHECK(reads("t"), 1);
-    CHECK(found.reset, PORT_RTS);
+    CHECK(found.reset, GT_PORT_RTS);
     CHECK(found.held_by, 1);
     CHECK(found.echo, 1);
-    CHECK(found.presence, PORT_NONE);
+    CHECK(found.presence, GT_PORT_NONE);
     CHECK(found.present_by, 1);
     CHECK(found.pps, 0);
     CHECK(found.baud, 9600);
@@ -87,18 +87,18 @@ static void initial(void)
 static void words(void)
 {
     CHECK(reads("t:reset=dtr,held-by=off,echo=no,presence=dsr,present-by=off,pps=yes"), 1);
-    CHECK(found.reset, PORT_DTR);
+    CHECK(found.reset, GT_PORT_DTR);
     CHECK(found.held_by, 0);
     CHECK(found.echo, 0);
-    CHECK(found.presence, PORT_DSR);
+    CHECK(found.presence, GT_PORT_DSR);
     CHECK(found.present_by, 0);
     CHECK(found.pps, 1);
     CHECK(reads("t:presence=cts"), 1);
-    CHECK(found.presence, PORT_CTS);
+    CHECK(found.presence, GT_PORT_CTS);
     CHECK(reads("t:presence=dcd,reset=rts"), 1);
-    CHECK(found.presence, PORT_DCD);
+    CHECK(found.presence, GT_PORT_DCD);
     CHECK(reads("t:presence=dcd,presence=always"), 1);
-    CHECK(found.presence, PORT_NONE);
+    CHECK(found.presence, GT_PORT_NONE);
     CHECK(reads("t:echo=yes,held-by=on,present-by=on,pps=no"), 1);
     CHECK(found.echo && found.held_by && found.present_by && !found.pps, 1);
     CHECK(refuses("t:reset=none", "wrong setting: 'reset=none'; 'reset' takes rts or dtr"), 1);

@@ -46,3 +46,39 @@ pub unsafe extern "C" fn memcmp(one: *const u8, two: *const u8, count: usize) ->
 pub unsafe extern "C" fn bcmp(one: *const u8, two: *const u8, count: usize) -> i32 {
     memcmp(one, two, count)
 }
+
+/// What compiled code for 32-bit ARM calls in place of these.
+#[cfg(target_arch = "arm")]
+mod aeabi {
+    use super::{memcpy, memmove, memset};
+
+    macro_rules! as_named {
+        ($($copy:ident $moved:ident $set:ident $clear:ident)*) => {$(
+            #[no_mangle]
+            pub unsafe extern "C" fn $copy(to: *mut u8, from: *const u8, count: usize) {
+                memcpy(to, from, count);
+            }
+
+            #[no_mangle]
+            pub unsafe extern "C" fn $moved(to: *mut u8, from: *const u8, count: usize) {
+                memmove(to, from, count);
+            }
+
+            #[no_mangle]
+            pub unsafe extern "C" fn $set(to: *mut u8, count: usize, byte: i32) {
+                memset(to, byte, count);
+            }
+
+            #[no_mangle]
+            pub unsafe extern "C" fn $clear(to: *mut u8, count: usize) {
+                memset(to, 0, count);
+            }
+        )*};
+    }
+
+    as_named! {
+        __aeabi_memcpy __aeabi_memmove __aeabi_memset __aeabi_memclr
+        __aeabi_memcpy4 __aeabi_memmove4 __aeabi_memset4 __aeabi_memclr4
+        __aeabi_memcpy8 __aeabi_memmove8 __aeabi_memset8 __aeabi_memclr8
+    }
+}

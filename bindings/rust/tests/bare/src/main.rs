@@ -1,5 +1,6 @@
 //! A program for a target without an operating system: no C library, no `std`, and memory from an
-//! array. It only asks Linux to end it, with status 42 if the card answered as it should.
+//! array. It only asks Linux, or on a Cortex-M the debugger, to end it, with status 42 if the card
+//! answered as it should.
 #![no_std]
 #![no_main]
 #![feature(alloc_error_handler)]
@@ -15,6 +16,14 @@ global_asm!(".globl _start", "_start:", "and rsp, -16", "call begin");
 #[cfg(target_arch = "aarch64")]
 global_asm!(".globl _start", "_start:", "bl begin");
 
+// where the stack begins, and the start
+#[cfg(target_arch = "arm")]
+global_asm!(
+    ".section .vectors, \"a\"",
+    ".word stack_top",
+    ".word begin"
+);
+
 fn end(status: u64) -> ! {
     #[cfg(target_arch = "x86_64")]
     unsafe {
@@ -23,6 +32,12 @@ fn end(status: u64) -> ! {
     #[cfg(target_arch = "aarch64")]
     unsafe {
         asm!("svc 0", in("x8") 93_u64, in("x0") status, options(noreturn))
+    }
+    // SYS_EXIT_EXTENDED, for ADP_Stopped_ApplicationExit
+    #[cfg(target_arch = "arm")]
+    unsafe {
+        let why = [0x20026, status as u32];
+        asm!("bkpt 0xAB", "b .", in("r0") 0x20, in("r1") &why, options(noreturn))
     }
 }
 

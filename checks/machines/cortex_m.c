@@ -1,5 +1,5 @@
-/* A play on a Cortex-M without an operating system or a C library: the start, memcpy and its like,
- * and printing by semihosting. A fault of the processor ends it with a line that says so. */
+/* A play on a Cortex-M without an operating system or a C library: the start, and printing by
+ * semihosting. A fault of the processor ends it with a line that says so. */
 #include "sum.h"
 
 enum { WRITE0 = 0x04, REPORT_EXCEPTION = 0x18 };
@@ -36,31 +36,3 @@ __attribute__((section(".vectors"), used)) static const struct {
     uint32_t *stack;
     void (*start)(void), (*faults[5])(void);
 } VECTORS = { stack_top, start, { fault, fault, fault, fault, fault } };
-
-void *memcpy(void *to, const void *from, size_t n)
-{
-    uint8_t *at = to;
-    const uint8_t *source = from;
-    while (n-- > 0)
-        *at++ = *source++;
-    return to;
-}
-
-void *memmove(void *to, const void *from, size_t n)
-{
-    uint8_t *at = to;
-    const uint8_t *source = from;
-    if (at < source)
-        return memcpy(to, from, n);
-    while (n-- > 0)
-        at[n] = source[n];
-    return to;
-}
-
-void *memset(void *to, int byte, size_t n)
-{
-    uint8_t *at = to;
-    while (n-- > 0)
-        *at++ = (uint8_t)byte;
-    return to;
-}

@@ -1,5 +1,6 @@
 """Builds and installs the package. Its extension module `galliumtoad._library` has the functions of
-`galliumtoad.h`, each with its NULL checks, linked with the archive for this processor."""
+`galliumtoad.h`, each with its NULL checks, linked with the archive for this processor. A second
+one, `galliumtoad._operation`, has the loop of an operation, with what it calls of the archive."""
 
 import os
 import platform
@@ -7,7 +8,7 @@ import re
 from pathlib import Path
 
 import cffi
-from setuptools import setup
+from setuptools import Extension, setup
 from setuptools.command.sdist import sdist
 
 HERE = Path(__file__).resolve().parent
@@ -31,22 +32,40 @@ def declarations():
     return "\n".join([f"#define {name} ..." for name in numbers] + public)
 
 
-def builder():
-    """The extension module, for cffi's hook in setuptools."""
+def processor():
+    """The processor to build for: `wheels` names another one."""
+    return os.environ.get("GALLIUMTOAD_PROCESSOR", platform.machine())
+
+
+def linked():
+    """What an extension module is built with: the archive, and the functions for memory."""
     here = f"{platform.architecture()[0]} {platform.system()}, libc {platform.libc_ver()[0] or '?'}"
-    archive = BINDINGS / "lib" / f"{platform.machine()}-linux-gnu" / "libcard_c.a"
+    archive = BINDINGS / "lib" / f"{processor()}-linux-gnu" / "libcard_c.a"
     if here != "64bit Linux, libc glibc" or not archive.is_file():
         raise SystemExit("galliumtoad: needs 64bit Linux, libc glibc, on aarch64 or x86_64; this is"
-                         f" {here}, on {platform.machine()}")
+                         f" {here}, on {processor()}")
     there = archive.read_text("latin-1")
     if lacks := [it for it in re.findall(r"\bgalliumtoad_\w+(?=\()", TEXT) if it not in there]:
         raise SystemExit(f"galliumtoad: {archive} is not that of the header: no {lacks[0]}")
     heap = os.path.relpath(BINDINGS / "c" / "src" / "heap.c", HERE)
+    return {"sources": [heap], "extra_objects": [str(archive)],
+            "include_dirs": [str(HEADER.parent)]}
+
+
+def builder():
+    """The extension module `_library`, for cffi's hook in setuptools."""
     made = cffi.FFI()
     made.cdef(declarations())
-    made.set_source("galliumtoad._library", '#include "galliumtoad.h"\n', sources=[heap],
-                    extra_objects=[str(archive)], include_dirs=[str(HEADER.parent)])
+    made.set_source("galliumtoad._library", '#include "galliumtoad.h"\n', **linked())
     return made
+
+
+def operation():
+    """The extension module `_operation`. The linker leaves out what it does not use."""
+    parts = linked()
+    parts["sources"].append("src/galliumtoad/_operation.c")
+    return Extension("galliumtoad._operation", **parts, py_limited_api=True,
+                     extra_link_args=["-Wl,--exclude-libs,ALL", "-Wl,--gc-sections"])
 
 
 class SourceDistribution(sdist):
@@ -60,5 +79,6 @@ class SourceDistribution(sdist):
 
 # The hook reads this file, too, under another name.
 if __name__ == "__main__":
-    made_from = {"cffi_modules": ["setup.py:builder"], "cmdclass": {"sdist": SourceDistribution}}
+    made_from = {"cffi_modules": ["setup.py:builder"], "ext_modules": [operation()],
+                 "cmdclass": {"sdist": SourceDistribution}}
     setup(version=VERSION, options={"bdist_wheel": {"py_limited_api": "cp39"}}, **made_from)

@@ -4,20 +4,13 @@
 """
 
 from galliumtoad import Application, Command
+from tlv import tlv
 
 PPSE, AID = b"2PAY.SYS.DDF01", bytes.fromhex("A0000000041010")
 PIN, TRIES = b"1234", 3
 # Errors of ISO/IEC 7816-4: no such application, record or object; not in this order; and so on.
 OK, NO_FILE, NO_RECORD, NO_OBJECT, WRONG_P1_P2 = 0x9000, 0x6A82, 0x6A83, 0x6A88, 0x6A86
 NOT_SATISFIED, BLOCKED, WRONG_DATA, NO_INS, NO_CLA = 0x6985, 0x6983, 0x6A80, 0x6D00, 0x6E00
-
-
-def tlv(tag: str, *parts: bytes) -> bytes:
-    """A data object with these values, of up to 255 bytes in all."""
-    value = b"".join(parts)
-    long = b"\x81" if len(value) > 127 else b""
-    return bytes.fromhex(tag) + long + bytes([len(value)]) + value
-
 
 # The files by their names, and the records by SFI and number: 1234 5678 9012 3452 is no account.
 TRACK = bytes.fromhex("1234567890123452D3012201")

@@ -3,17 +3,22 @@ library's blocks at T=1.
 
 usage: planted.py TTY AID TAG VALUE MISTAKE"""
 
+import fcntl
 import os
 import re
 import select
 import signal
+import struct
 import sys
 
 from galliumtoad import T1
 
 TTY, (AID, TAG, VALUE) = sys.argv[1], map(bytes.fromhex, sys.argv[2:5])
 MISTAKE = sys.argv[5]
-SECONDS = 1.5  # its waiting time
+# its waiting time
+SECONDS = {"a short waiting time": 0.5, "a long waiting time": 8}.get(MISTAKE, 1.5)
+# Linux: settings with any rate
+GET_SETTINGS, PUT_SETTINGS, SETTINGS = 0x802C542A, 0x402C542B, "4I20s2I"
 # The statuses other than 9000 that a mistake takes for success, at these commands of the job.
 LAX = {
     "no status": (".", "12345"), "no status of select": (".", "1"),
@@ -60,18 +65,24 @@ def send(data, of="data"):
 def by_characters(header, data=b""):
     """Carries a TPDU of T=0. Returns the data of the response, and the status."""
     send(header, "a header")
-    wanted, received, nulls = 0 if data else header[4] or 256, b"", 0
+    wanted, received, nulls, singles = 0 if data else header[4] or 256, b"", 0, 0
     while True:
         byte = next_byte()
         if byte == 0x60 and not has("NULL not known") and not (nulls and has("one NULL at most")):
             nulls += 1
             continue
         if byte >> 4 in (6, 9):
-            status = byte << 8 | next_byte()
+            second = read() or (b"\0" if has("SW1 alone taken") else sys.exit("silence"))
+            status = byte << 8 | second[0]
             if data and status == 0x9000 and not has("an early status"):
                 sys.exit("9000 before the data")
             return received, status
         procedure, is_lax = byte ^ header[1], has("any procedure byte")
+        if has("INS with another lowest bit taken"):
+            procedure &= 0xFE if procedure < 2 else 0xFF
+        if has("one complement known") and procedure == 0xFF:
+            singles += 1
+            is_lax = singles > 1
         if procedure not in (0, 0xFF) and not is_lax:
             sys.exit("no procedure byte")
         is_all = procedure == 0 or is_lax or has("a complement taken for INS")
@@ -96,6 +107,10 @@ def pass_block(sent, waits):
         return found[:-1] + bytes([check])
     if found[1:2] == b"\xC3" and has("no more time granted"):
         sys.exit("too slow")
+    if found[1:2] and found[1] & 0xCF in (0x81, 0x82) and has("an R-block taken for the end"):
+        sys.exit("an error")
+    if found[1:2] == b"\xC1" and has("another field size ignored"):
+        return pass_block(bytes([0, 0xE1, 1, found[3], 0xE0 ^ found[3]]), 1)
     return found or (sys.exit("silence") if has("a lost block not asked for") else b"")
 
 
@@ -190,10 +205,32 @@ def job():
         sys.exit(1)
 
 
+def change_rate():
+    """Continues at the rate of Fi 512 and Di 16, after one of Fi 372 and Di 1."""
+    settings = list(struct.unpack(SETTINGS, fcntl.ioctl(line, GET_SETTINGS, bytes(44))))
+    settings[2] = settings[2] & ~0o10017 | 0o10000  # any rate
+    settings[-2:] = [settings[-1] * 372 * 16 // 512] * 2
+    fcntl.ioctl(line, PUT_SETTINGS, struct.pack(SETTINGS, *settings))
+
+
+def pps():
+    """Asks for the card's own rate."""
+    send(bytes.fromhex("FF10957A"), "a header")
+    if read(4) != bytes.fromhex("FF10957A") and not has("PPS not compared"):
+        sys.exit("another PPS")
+    if not has("the rate not changed"):
+        change_rate()
+
+
 answer = read(2, 60)
-carry = by_characters if answer == b"\x3B\x00" else in_blocks
-if carry == in_blocks and read(2) != b"\x01\x81":
+carry = by_characters if answer in (b"\x3B\x00", b"\x3B\x10") else in_blocks
+if carry == in_blocks and has("any answer to reset taken"):
+    carry = by_characters if answer[:1] != b"\x3B" else in_blocks
+if carry == in_blocks and read(2) != b"\x01\x81" and not has("the check byte not compared"):
     sys.exit("another answer to reset")
+if answer == b"\x3B\x10":
+    read()
+    pps()
 blocks = T1(pass_block)
 try:
     job()

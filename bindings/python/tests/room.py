@@ -2,7 +2,6 @@
 the program."""
 
 import argparse
-import binascii
 import contextlib
 import io
 import json
@@ -10,9 +9,11 @@ import os
 import platform
 import re
 import signal
+import sqlite3
 import subprocess
 import sys
 import threading
+from datetime import datetime
 from pathlib import Path
 
 import pytest
@@ -112,7 +113,7 @@ class Room:
     variables of the stand-in for pyscard."""
 
     def __init__(self, path, rows, readers=1, card=0, **environment):
-        self.path, self.is_apart = path, False
+        self.path, self.is_apart, self.place = path, False, str(path / "journal")
         (path / "cards").mkdir()
         # two runs of these tests at the same time have different readers
         self.names = [f"Slot{at}-{os.getpid()}" for at in range(readers)]
@@ -147,11 +148,17 @@ class Room:
             program += ["--journal=journal"]
         is_run = not {"--status", "--done", "--again", "--look", "--check"} & {*names}
         is_own = "--journal" not in names and "--new" not in names
-        if is_run and is_own and not (self.path / "journal").exists():
+        if is_run and is_own and not self.is_created():
             program += ["--new"]
         if is_run and "--reader" not in names:
             program += self.readers
         return [*program, *(["--go"] if go and is_run else []), *words]
+
+    def is_created(self):
+        """Whether the journal is there, and no crash has cut its creation."""
+        file = self.path / "journal"
+        is_cut = (self.path / "journal-journal").exists()
+        return file.exists() and (not file.is_file() or file.stat().st_size > 0 and not is_cut)
 
     def start(self, *words, go=True):
         return self.start_program(self.words(*words, go=go))
@@ -179,18 +186,22 @@ class Room:
         out, error = ended(run)
         return run.returncode, out, error
 
-    def create(self, id_tag=None):
+    def create(self, id_tag=None, key=""):
         """Creates the journal, without a run."""
         from galliumtoad.batch.journal import Heading, create, place_of
 
         table = place_of(str(self.path / "rows.csv"))
-        create(str(self.path / "journal"), Heading(1, 1, id_tag, "00" * 16, table))
+        create(self.place, Heading(1, 1, id_tag, key, "00" * 16, table))
 
     def opened(self, rows, *more):
-        """The journal, in this process."""
+        """The journal, in this process, of a table with this number of rows."""
         from galliumtoad.batch.journal import Journal
 
-        return Journal(str(self.path / "journal"), str(self.path / "rows.csv"), rows, *more)
+        journal = Journal(self.place, *more)
+        journal.sync([None] * rows)
+        if not journal.only_looks:
+            journal.start("")
+        return journal
 
     def desk(self, rows):
         """A run of this number of rows without an operation, which has not begun."""
@@ -200,30 +211,59 @@ class Room:
         given = argparse.Namespace(go=True, stop_after=1, reader=[], report=None)
         return Desk([[]] * rows, self.opened(rows), given)
 
-    def journal(self):
-        return (self.path / "journal").read_text().splitlines()
+    def asked(self, words, *values, of="journal"):
+        """What the database of a journal answers. A SELECT writes nothing, also not at its end."""
+        how = "ro" if words.startswith("SELECT") else "rwc"
+        name = f"file:{self.path / of}?mode={how}"
+        made = sqlite3.connect(name, 60, isolation_level=None, uri=True)
+        with contextlib.closing(made):
+            return made.execute(words, values).fetchall()
+
+    def dump(self):
+        """All texts in the journal."""
+        with contextlib.closing(sqlite3.connect(self.path / "journal")) as made:
+            return "\n".join(made.iterdump())
 
     def begun(self, word="begin"):
-        """Waits until a row was begun, or has a line with another word."""
-        file = self.path / "journal"
-        wait_until(lambda: file.exists() and f"\n{word} " in file.read_text())
-
-    def lines(self, *texts):
-        """Lines that may follow in the journal: each ends in the sum of all texts up to it."""
-        before, made = "".join(it[:-9] for it in self.journal()), ""
-        for it in texts:
-            before += it
-            made += f"{it} {binascii.crc32(before.encode()):08x}\n"
-        return made
-
-    def add(self, *texts):
-        """Adds lines to the journal."""
-        with open(self.path / "journal", "a") as file:
-            file.write(self.lines(*texts))
+        """Waits until a row was begun, or has a step with another word."""
+        wait_until(lambda: any(it.startswith(f"{word} ") for it in self.events()))
 
     def events(self):
-        """The first two words of each line of the journal."""
-        return [" ".join(it.split()[:2]) for it in self.journal()[1:]]
+        """The word and the row of each step in the journal, in their order. Its creation may not
+        have ended."""
+        try:
+            steps = "SELECT word, number FROM log ORDER BY rowid"
+            found = self.asked(steps) if (self.path / "journal").exists() else []
+            return [f"{word} {row}" for word, row in found]
+        except sqlite3.OperationalError:
+            return []
+
+    def add(self, *texts):
+        """Adds steps to the journal, each with a word, a row, a time and maybe a note, as a run
+        would that has ended since. What a person decides has the note `decided`."""
+        from galliumtoad.batch.journal import Entry, sum_of
+
+        for word, row, time, *more in (it.split(" ", 3) for it in texts):
+            row, note, at = int(row), "".join(more), datetime.fromisoformat(time).timestamp()
+            found = self.asked("SELECT * FROM rows WHERE number = ?", row)
+            it = Entry(*found[0]) if found else Entry(row)
+            it = it._replace(steps=it.steps + 1)
+            states = {"begin": "begun", "card": "begun", "again": "free", "unused": "free"}
+            it = it._replace(state=states.get(word, word), run="over")
+            if word == "begin":
+                digest, _, reader = note.partition(" ")
+                it = it._replace(digest=digest, reader=reader, begun=at, ended=at, reason="")
+            elif word == "card":
+                it = it._replace(card=note)
+                card = (note, row, at)
+                self.asked("INSERT INTO cards VALUES (?, ?, ?, ?)", *card, sum_of(*card))
+            else:
+                it = it._replace(reason=note, decided=int(note == "decided"))
+                it = it if it.decided else it._replace(ended=at)
+            it = it.summed()
+            self.asked(f"REPLACE INTO rows VALUES ({', '.join('?' * len(it))})", *it)
+            line = (row, it.steps, at, "over", word, note)
+            self.asked("INSERT INTO log VALUES (?, ?, ?, ?, ?, ?, ?)", *line, sum_of(*line))
 
     def to_decide(self):
         """The rows that the program lists, each with its word."""
@@ -231,16 +271,20 @@ class Room:
 
     def decide(self):
         """Decides each undecided row by the contents of its cards."""
+        words = []
         for row in self.to_decide():
             whole, _ = self.cards_of(row)
             assert whole in (0, 1)
-            self.run(f"--{'done' if whole else 'again'}={row}")
+            words.append(f"--{'done' if whole else 'again'}={row}")
+        if words:
+            self.run(*words)
 
     def finish(self, rows, *words):
         """Runs and decides until all rows are done, each whole on one card."""
-        while (status := self.run(*words, go=False)[0]) == 1:
+        while (status := (found := self.run(*words, go=False))[0]) == 1:
             self.decide()
-        assert status == 0 and [self.cards_of(row)[0] for row in range(1, rows + 1)] == [1] * rows
+        assert status == 0, found
+        assert [self.cards_of(row)[0] for row in range(1, rows + 1)] == [1] * rows
 
     def held(self):
         """The contents of each card, by the name of its file."""

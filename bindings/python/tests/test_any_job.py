@@ -18,7 +18,8 @@ from xml.etree import ElementTree
 import any_cards
 import pytest
 from galliumtoad import Level
-from galliumtoad.faults import ANYWHERE, ECHO, LINE, T0, T1, Gone, Mistake
+from galliumtoad.faults import ANYWHERE, ECHO, LINE, T0, T1, Gone
+from galliumtoad.mistakes import Mistake
 from galliumtoad.trials import engine, expect, main, program, progress, report
 from galliumtoad.trials.any_job import AnyJob, AnyRun, card_of, chosen
 from galliumtoad.trials.dialogue import Dialogue, Exchange, Step
@@ -270,7 +271,7 @@ def test_a_run_leaves_nothing(tmp_path):
 
 def test_a_card_that_can_not_be_served(monkeypatch, capsys):
     """It is no terminal's fault, and nothing waits for it."""
-    def fails(*_):
+    def fails(*_, **__):
         raise OSError("out of pty devices")
     monkeypatch.setattr(engine, "serve_pty", fails)
     monkeypatch.setattr(engine, "AWAIT_READER", 20)

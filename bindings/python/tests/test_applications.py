@@ -1,6 +1,7 @@
 """Tests cards of applications of one's own in `galliumtoad.simulate`, in Python and in programs.
 The examples give the same answers at T=0 and at T=1."""
 
+import importlib
 import json
 import os
 import select
@@ -11,18 +12,19 @@ import sys
 from pathlib import Path
 
 import pytest
-from galliumtoad import T1, Exchange, OwnCard, cards, simulate
-from galliumtoad.cards import Program, application
-from galliumtoad.faults import Mistake, block
-from galliumtoad.simulate import Simulator, main
+from galliumtoad import T1, Exchange, OwnCard
+from galliumtoad.cards import Program, application, programs
+from galliumtoad.edits import block
+from galliumtoad.mistakes import Mistake
+from galliumtoad.simulate import Simulator, main, serve
 from room import folder_of_programs
 from waiting import AtPty, wait_until
 
 EXAMPLES = Path(__file__).resolve().parents[1] / "examples"
 sys.path.insert(0, str(EXAMPLES))
 
-# Commands and their answers, by EMV 4.3 and ETSI TS 102 221. After a + they continue in the next
-# line.
+# Commands and their answers, by EMV 4.3, ETSI TS 102 221, the OpenPGP application 3.4, PKCS #15 and
+# ISO/IEC 7816-4. After a + they continue in the next line.
 COUNTER = """
 8010000000 019000 8010000001 029000 80100001 6D00 0010000000 6D00
 """
@@ -55,8 +57,63 @@ UICC = """
 8A01059000
 00A4080C022FE2 9000 00A4080C026F07 6A82 00A4100C02FFFF 6A86
 """
+# The fingerprint is what gpg prints of the key's packet.
+OPENPGP = """
+00CA004F00 6985 00A4040006D2760001240200 6A82 00A4040005D276000124 6A82 00A4010006D27600012401 6A86
+00A4040006D27600012401 9000 00CA004F00 D276000124010304FFFF0000000100009000
+00CA5F5200 0031F573C001000590009000 00CA00C400 002020200300039000 00CA006500 65185B0D546F61643C3C+
+47616C6C69756D5F2D02656E5F3501399000 00CA005E00 67616C6C69756D9000 00CA5F5000 9000
+00CA007A00 7A0593030000009000 00CA010100 9000 00CA010300 6982 00CA010400 6982 00CA006F00 6A88
+00CA006E00 6E81D94F10D276000124010304FFFF0000000100005F520A0031F573C00100059000_7381B7+
+C00A18000000000000FE0000C106010800001100C206010800001100C306010800001100C40700202020030003+
+C53CFC80BBA8C82771C939FFCD9BF9A547D196E3E472_0000000000000000000000000000000000000000+
+_0000000000000000000000000000000000000000+
+C63C_0000000000000000000000000000000000000000+
+_0000000000000000000000000000000000000000+
+_0000000000000000000000000000000000000000+
+CD0C5E0BE10000000000000000009000
+00200081 63C3 0020008106313233343537 6982 00200081 63C2 00CA00C400 002020200200039000
+00DA005E03414243 6982 0020008308313233343536373A 6982 00200083083132333435363738 9000
+00200083 9000 00DA005E03414243 9000 00CA005E00 4142439000 00DA004F03414243 6A88
+00DA010102AABB 6982 0020008206313233343536 9000 00DA010102AABB 9000 00CA010100 AABB9000
+00DA010302CCDD 9000 00CA010300 CCDD9000 00CA010400 9000 0020FF82 9000 00CA010300 6982
+00200182 6A86 00200084 6A86 002400830F313233343536373841424344454647 6A80
+002400810F313233343536414243444546474849 9000 0020008206313233343536 6982
+002000820A41424344454647484950 6982 0020008106313233343536 6982 0020008109414243444546474849 6983
+00200081 63C0 00CA00C400 002020200000039000
+002C028106313233343536 9000 00CA00C400 002020200300039000 002C0281053132333435 6A80
+002C008106313233343536 6A86 0024008206313233343536 6A86 0020008106313233343536 9000
+00DA00C40101 9000 00CA00C400 012020200300039000 00DA00C40102 6A80 00DA00C4 6A80
+002A9E9A00 6700 002A8086 6A86 0047800002B600 6A81 0047810002B800 6A88
+00F2000000 6D00 80CA004F00 6E00 00A4040006D27600012401 9000 002C028106313233343536 6982
+00DA005E 6982 002A9E9A0130 6982 00CA005E00 4142439000
+"""
+PKCS15 = """
+00B0000000 6986 00A4000C022F00 9000
+00B0000000 61214F0CA000000063504B43532D3135500B47616C6C69756D746F616451043F0050159000
+00B0001D00 51043F0050159000 00B0002300 6B00 00B0800000 6A82 00B0000002 61219000
+00A4000002501500 6F158201388302501584_0CA000000063504B43532D31359000 00A4000C025031 9000
+00A4000C024402 9000 00A4000C025015 9000 00A4000C023F00 9000 00A4000C024402 6A82
+00A4000C025015 9000 00A4000402503100 6F0B800200248201018302_50319000
+00B0000000 A40A300804063F0050154402A70A300804063F0050154403A80A300804063F00501544019000
+00A4080C0450155032 9000 00B0000000 30280201000405_00000000010C0B47616C6C69756D746F6164800B_+
+47616C6C69756D746F6164030206409000
+00A4080C0450154401 9000 00B0000000 302B30050C0350494E3003040101A11D301B030203880A01010201040201_+
+08020108800101300604043F0050159000
+00A4080C0450154402 9000 00B0000000 3022300D0C0B4365727469666963617465_3003040145A10C300A3008_+
+04063F00501545019000
+00A4040C0CA000000063504B43532D3135 9000 00A4040C05A000000063 9000 00A4040C04A0000000 6A82
+00A4040C0CA000000063504B43532D3136 6A82 00A40400 6A82 00A4100C025015 6A86 00A4090C025015 6A82
+00A4040C05A000000063 9000 00A4090C024501 9000 00B0014000 CBDACFF733D8133B12D395E94C9000
+00A4000C024509 6A82 00B0000002 30829000
+00A4000C024502 9000 00B0000000 6982 00200001 63C3 002000010431323335 63C2 002000010431323334 9000
+00200001 9000 00B0000000 5468652050494E20776173207269676874_2E9000 00200002 6A88 00200101 6A88
+002000010431323335 63C2 00B0000000 6982 002000010431323335 63C1 002000010431323335 63C0
+002000010431323334 6983 00200001 6983 00D6000000 6D00 80B0000001 6E00
+"""
 T1_ATR = "3B800181"
-CARDS = {"counter:Counter": COUNTER, "payment:Payment": PAYMENT, "uicc:Uicc": UICC}
+CARDS = {"counter:Counter": COUNTER, "payment:Payment": PAYMENT, "uicc:Uicc": UICC,
+         "openpgp:OpenPgp": OPENPGP, "pkcs15:Pkcs15": PKCS15}
 
 
 def dialogue(name):
@@ -99,6 +156,89 @@ def test_an_example_at_a_line(name, atr):
     commands, answers = dialogue(name)
     assert [card.answer(it) for it in commands] == answers
     card.end()
+
+
+def at(card):
+    """What a card answers to a command, in digits."""
+    return lambda command: card.apdu(bytes.fromhex(command)).hex().upper()
+
+
+VERIFY_TO_SIGN, SIGN = "0020008106313233343536", f"002A9E9A13{bytes(range(19)).hex()}00"
+
+
+def test_the_key_of_the_openpgp_card():
+    """What it signs is padded by RFC 8017, 9.2. A password is good for one signature."""
+    with OwnCard(application("openpgp:OpenPgp")) as card:
+        ask = at(card)
+        ask("00A4040006D27600012401")
+        first, rest = ask("0047810002B60000"), ask("00C000000E")
+        assert (first[-4:], rest[-4:]) == ("610E", "9000")
+        key = first[:-4] + rest[:-4]
+        assert (key[:18], key[-10:]) == ("7F4982010981820100", "8203010001")
+        modulus = int(key[18:-10], 16)
+        assert modulus == (2**1024 - 105) * (2**1024 - 179) and modulus.bit_length() == 2048
+        assert ask(SIGN) == "6982"
+        for count in (1, 2):
+            assert ask(VERIFY_TO_SIGN) == "9000"
+            signed = ask(SIGN)
+            assert signed[-4:] == "9000"
+            padded = pow(int(signed[:-4], 16), 65537, modulus)
+            assert padded == int(f"0001{'FF' * 234}00{bytes(range(19)).hex()}", 16)
+            assert ask("00CA007A00") == f"7A0593030000{count:02X}9000"
+            assert ask(SIGN) == "6982"
+        ask("00200083083132333435363738")
+        ask("00DA00C40101")
+        ask(VERIFY_TO_SIGN)
+        assert [ask(SIGN)[-4:] for _ in range(2)] == ["9000", "9000"]
+        # a wrong password takes the right one back
+        assert [ask("0020008106313233343530"), ask(SIGN)] == ["6982", "6982"]
+        ask(VERIFY_TO_SIGN)
+        assert ask(f"002A9E9A67{'00' * 103}00") == "6700"
+
+
+def test_what_a_reset_of_the_openpgp_card_drops():
+    """A change whose status did not leave, and all passwords, but no try."""
+    with OwnCard(application("openpgp:OpenPgp")) as card:
+        ask = at(card)
+        ask("00A4040006D27600012401")
+        ask("00200083083132333435363738")
+        card.receive_bytes(bytes.fromhex("00DA005E02"))
+        assert card.send_bytes() == b"\xDA"
+        card.receive_bytes(b"AB")
+        assert card.send_bytes(1) == b"\x90"
+        card.reset()
+        ask("00A4040006D27600012401")
+        assert ask("00CA005E00") == "67616C6C69756D9000"
+        assert [ask("00DA005E00"), ask("0020008306313233343536"), ask("00200083")] == [
+            "6700", "6982", "63C2"]
+        card.reset()
+        ask("00A4040006D27600012401")
+        assert [ask("00200083"), ask("00200081")] == ["63C2", "63C3"]
+        card.receive_bytes(bytes.fromhex("002400810C"))
+        assert card.send_bytes() == b"\x24"
+        card.receive_bytes(b"123456654321")
+        assert card.send_bytes(1) == b"\x90"
+        card.reset()
+        ask("00A4040006D27600012401")
+        assert ask(VERIFY_TO_SIGN) == "9000"
+
+
+def test_what_a_reset_of_the_pkcs15_card_drops():
+    """The selected file, and that the PIN was right."""
+    with OwnCard(application("pkcs15:Pkcs15")) as card:
+        ask, select, read = at(card), "00A4080C0450154502", "00B0000004"
+        assert [ask(it) for it in (select, "002000010431323334", read)] == [
+            "9000", "9000", "546865209000"]
+        card.reset()
+        assert [ask(it) for it in (read, select, read)] == ["6986", "9000", "6982"]
+
+
+def test_the_length_of_a_data_object():
+    """ISO/IEC 8825-1, 8.1.3: one byte up to 127, else the number of its bytes comes first."""
+    tlv = importlib.import_module("tlv").tlv
+    for size, head in ((0, "5000"), (127, "507F"), (128, "508180"), (255, "5081FF"),
+                       (256, "50820100")):
+        assert tlv("50", bytes(size)).hex().upper() == head + "00" * size
 
 
 def test_a_card_in_another_language():
@@ -167,7 +307,7 @@ HEADER, COMMAND = "header 80100000", "command 80100000 1"
       "it had said b'\\n'")],
 )
 def test_a_program_that_is_silent_dead_or_rude(monkeypatch, script, line, why):
-    monkeypatch.setattr(cards, "PATIENCE", 4.0 if "no more" in why else 60.0)
+    monkeypatch.setattr(programs, "PATIENCE", 4.0 if "no more" in why else 60.0)
     it = Program(f"sh -c '{script}'")
     if not script.startswith(("read", "sleep")):
         select.select([it.program.stdout], [], [], 60)  # it speaks or ends by itself
@@ -201,7 +341,7 @@ def test_a_program_ends_with_the_simulation():
      (["--program", " "], "list index out of range"), (["--program", "'"], "No closing quotation")],
 )
 def test_cards_that_can_not_be_made(capsys, monkeypatch, words, text):
-    monkeypatch.setattr(simulate, "serve_pty", lambda *_: pytest.fail("it serves"))
+    monkeypatch.setattr(serve, "serve_pty", lambda *_: pytest.fail("it serves"))
     assert main([*words, "--pty"]) == 2
     out, error = capsys.readouterr()
     assert text in error and out == ""

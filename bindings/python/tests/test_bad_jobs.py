@@ -61,12 +61,37 @@ MISTAKES = [
     ("purse", "sent again after an error", "command 2 status 6F00", "twice"),
     ("purse", "sent again after a warning", "command 2 status 6200", "twice"),
     ("purse", "exit 0 always", "command 2 mute", "wrong"),
+    ("purse", "no status", "command 2 refuse 6F00", "wrong"),
+    ("purse", "no status of the third command", "command 3 status 6F00", "wrong"),
+    ("purse", "no status of the first command", "command 1 status 6F00", "wrong"),
+    ("purse", "NULL not known", "command 2 nulls 1000", "failed"),
+    ("purse", "crashes at an error", "command 2 status 6F00", "crashed"),
+    ("purse", "no limit of time", "command 3 mute", "hung"),
+    ("purse", "any procedure byte taken", "command 1 procedure 33", "wrong"),
+    ("purse", "gives up in silence", "command 2 refuse 6F00", "wrong"),
+    ("purse", "the echo of a header not compared", "command 2 wrong echo", "wrong"),
     ("purse", "6CXX for ever", "command 3 6C again", "hung"),
     ("chain", "any 65XX taken", "command 2 status 6581", "wrong"),
     ("chain", "no status but of the last command", "command 2 status 6F00", "wrong"),
     ("chain", "sent again after a warning", "command 2 status 6200", "twice"),
     ("chain", "exit 0 always", "command 4 refuse 6F00", "wrong"),
+    ("chain", "no status", "command 3 status 6F00", "wrong"),
+    ("chain", "no status of the first command", "command 1 status 6F00", "wrong"),
+    ("chain", "sent again after an error", "command 3 status 6F00", "twice"),
+    ("chain", "crashes at an error", "command 3 refuse 6F00", "crashed"),
+    ("chain", "NULL not known", "command 3 nulls 1000", "failed"),
+    ("chain", "a complement taken for INS", "command 2 complement", "failed"),
+    ("chain", "any procedure byte taken", "command 1 procedure 33", "wrong"),
+    ("chain", "the echo of a header not compared", "command 3 wrong echo", "wrong"),
+    ("chain", "the echo of data not compared", "command 2 wrong echo of data", "wrong"),
+    ("chain", "gives up in silence", "command 4 refuse 6F00", "wrong"),
 ]
+
+
+def test_the_corpus():
+    """Forty bad terminals or more, at three jobs: of a safe, of a purse, and of a value."""
+    found = {("chain" if job == "store" else job, mistake) for job, mistake, _, _ in MISTAKES}
+    assert len(found) >= 40 and {job for job, _ in found} == {"safe", "purse", "chain"}
 
 
 @pytest.mark.parametrize(("job", "mistake", "name", "verdict"), MISTAKES)

@@ -80,15 +80,54 @@ MISTAKES = [
     ("a second block not dropped", "block twice", "failed"),
     ("no more time granted", "extension of 255", "failed"),
 ]
+# The same of the trials of a line.
+OF_LINES = [
+    ("any answer to reset taken", "answer without TS", "wrong"),
+    ("the check byte not compared", "answer with a wrong TCK", "wrong"),
+    ("a short waiting time", "procedure byte that is late", "failed"),
+    ("a long waiting time", "procedure byte that is too late", "wrong"),
+    ("a long waiting time", "byte of a response that is too late", "wrong"),
+    ("INS with another lowest bit taken", "procedure byte of another INS at a put", "wrong"),
+    ("SW1 alone taken", "SW1 alone after a put", "wrong"),
+    ("one complement known", "get byte by byte", "failed"),
+    ("one NULL at most", "put with NULL before each byte", "failed"),
+    ("a complement taken for INS", "put of some bytes alone", "failed"),
+    ("an R-block taken for the end", "block that the card says was damaged", "failed"),
+    ("another field size ignored", "fields of 1 byte in a chain", "failed"),
+    ("no more time granted", "extension of 1", "failed"),
+    ("a second block not dropped", "block after the end", "failed"),
+    ("PPS not compared", "PPS with another PPS1", "wrong"),
+    ("the rate not changed", "PPS that changes the rate", "failed"),
+    ("no limit of time", "gone before a procedure byte", "hung"),
+    ("exit 0 always", "gone within a status", "wrong"),
+]
 AT_T1 = ["block", "extension", "get with too much"]  # begins the name of such a trial
 
 
 @pytest.mark.parametrize(("mistake", "name", "verdict"), MISTAKES)
 def test_a_mistake_is_found(tmp_path, mistake, name, verdict):
     t = "1" if name.startswith(tuple(AT_T1)) else "0"
-    limit = 3 if verdict == "hung" else 30
+    limit = 12 if verdict == "hung" else 30
     status, found = tried(tmp_path, name, mistake, "--protocol", t, limit=limit)
     assert (status, found["no fault"], found[name]) == (1, "right", verdict)
+
+
+@pytest.mark.parametrize(("mistake", "name", "verdict"), OF_LINES)
+def test_a_mistake_at_a_line_is_found(tmp_path, mistake, name, verdict):
+    limit = 12 if verdict == "hung" else 60
+    words = ["--lines", "--slack", "0.5"]
+    status, found = tried(tmp_path, name, mistake, *words, limit=limit)
+    assert (status, found["no fault"], found[name]) == (1, "right", verdict)
+
+
+GOOD = ["procedure byte that is late", "get byte by byte", "extension of 1", "fields of 1 byte",
+        "PPS that changes the rate", "PPS with another PPS1", "answer with a wrong TCK"]
+
+
+@pytest.mark.parametrize("name", GOOD)
+def test_a_good_terminal_at_a_line(tmp_path, name):
+    """The same without a mistake."""
+    assert tried(tmp_path, name, "", "--lines", "--slack", "0.5", limit=60)[0] == 0
 
 
 @pytest.mark.parametrize(

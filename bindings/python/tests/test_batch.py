@@ -1,7 +1,6 @@
 """Tests batches of cards, over a stand-in for pyscard that changes the cards. Runs are killed at
 random, have a full disk or a cut journal, run twice at once, or meet cards of another profile."""
 
-import fcntl
 import json
 import os
 import random
@@ -13,6 +12,7 @@ import time
 
 import pytest
 from galliumtoad import Card, Select, Terminal
+from galliumtoad.batch.journal import Journal
 from galliumtoad.batch.script import Recorder, Script, carry_out, check_of
 from room import (AID, HERE, SCRIPT, STANDIN, Room, ended, interruptible, lines_up_to, listed,
                   refused, steps_of, told)
@@ -23,13 +23,17 @@ import operations  # noqa: E402
 CARDS = int(os.environ.get("CARDS", 250))
 KILLS = int(os.environ.get("KILLS", 10))
 
-# Holds the journal's lock for a while, and then takes the first row.
-HOLDS = """import fcntl, os, sys, time
-file = os.open("journal", os.O_RDWR | os.O_APPEND)
-fcntl.lockf(file, fcntl.LOCK_EX, 1, 0)
-print(flush=True)
-time.sleep(0.5)
-os.write(file, sys.argv[1].encode())
+# Has the journal for itself for a while, and then takes the first row.
+HOLDS = """import time
+from galliumtoad.batch.journal import Journal
+journal = Journal("journal")
+journal.start("")
+def work():
+    print(flush=True)
+    time.sleep(0.5)
+    journal._change(journal._entry(1), state="taken", run=journal.run)
+journal.base.whole(work)
+input()
 """
 
 
@@ -45,7 +49,7 @@ def test_each_row_goes_to_one_card(tmp_path):
     assert (status, error) == (0, "")
     assert out.splitlines()[-1] == "60 of 60 rows done, 0 to decide"
     assert [room.cards_of(row)[0] for row in range(1, 61)] == [1] * 60
-    text = "\n".join(room.journal())
+    text = room.dump()
     assert "PERSON" not in text + out and f"{room.names[1]}-1".encode().hex().upper() in text
 
 
@@ -65,14 +69,15 @@ def noted(monkeypatch, of, name, note):
     monkeypatch.setattr(of, name, lambda *words: (note(*words), calls(*words))[1])
 
 
-def test_a_row_is_on_disk_before_its_cards_first_byte(tmp_path, monkeypatch, connection):
-    room, steps = Room(tmp_path, 1), []
-    noted(monkeypatch, os, "fsync", lambda file: steps.append("on disk"))
-    noted(monkeypatch, connection, "transmit", lambda it, sent: steps.append("card"))
+def test_a_row_is_in_the_journal_before_its_cards_first_byte(tmp_path, monkeypatch, connection):
+    """For all processes. What is in it is on disk: see the test of a power loss."""
+    room, seen = Room(tmp_path, 1), []
+    words = "SELECT state, reader FROM rows"
+    noted(monkeypatch, connection, "transmit", lambda it, sent: seen.append(room.asked(words)))
     assert room.run()[0] == 0
-    # the heading, the folder and the row
-    assert steps[:3] == ["on disk"] * 3 and set(steps[3:-1]) == {"card"}
-    assert steps[-1] == "on disk"
+    assert seen[0] == seen[-1] == [("begun", room.names[0])] and len(seen) > 5
+    assert room.asked("SELECT state FROM rows") == [("done",)]
+    assert room.opened(1).base.execute("PRAGMA synchronous") == [(2,)]
 
 
 def test_an_identifier_is_on_disk_before_a_card_changes(tmp_path, monkeypatch, connection):
@@ -141,11 +146,12 @@ def test_a_row_in_progress_is_not_to_be_decided(tmp_path):
     room.is_apart = True
     room.create()
     journal = room.opened(2)
-    assert journal.reserve() == 1
-    journal.note(1, "begin", f"{journal_check(room, 1)} Slot0")
+    assert journal.reserve("Slot0") == 1
+    assert room.run("--done=1") == refused("row 1 has not begun")
+    assert journal.begin(1, journal_check(room, 1), "Slot0")
     assert room.to_decide() == {}
     journal.identify(1, "00")
-    assert room.to_decide() == {} and journal.undecided() == {}
+    assert room.to_decide() == {} and [*journal.undecided()] == []
     for word in ("done", "again"):
         assert room.run(f"--{word}=1") == refused("row 1 is in progress")
         with pytest.raises(ValueError, match="row 1 is in progress"):
@@ -164,53 +170,56 @@ def journal_check(room, row):
 def test_a_row_is_taken_after_whoever_has_the_journal(tmp_path):
     room = Room(tmp_path, 2)
     room.create()
-    line = room.lines("begin 1 2026-01-01T00:00:00+00:00 00 other")
-    other = room.start_program([sys.executable, "-c", HOLDS, line])
+    journal = room.opened(2)
+    other = room.start_program([sys.executable, "-c", HOLDS], subprocess.PIPE)
     assert other.stdout.readline() == "\n"
-    assert room.opened(2).reserve() == 2
-    assert other.wait() == 0
+    assert journal.reserve("Slot0") == 2
+    other.communicate("\n", timeout=60)
+    assert other.returncode == 0
 
 
 def test_threads_and_processes_reserve_different_rows(tmp_path):
     room = Room(tmp_path, 4)
     room.create()
     one = room.opened(4)
-    assert [one.reserve(), one.reserve()] == [1, 2]
-    asks = "from galliumtoad.batch.journal import Journal\n"
-    asks += "print(Journal('journal', 'rows.csv', 4).reserve())"
-    assert ended(room.start_program([sys.executable, "-c", asks]))[0] == "3\n"
+    assert [one.reserve("A"), one.reserve("B"), one.reserve("A")] == [1, 2, 1]
+    asks = "from galliumtoad.batch.journal import Journal\njournal = Journal('journal')\n"
+    asks += "journal.start('')\nprint(journal.reserve('A'), flush=True)\ninput()"
+    other = room.start_program([sys.executable, "-c", asks], subprocess.PIPE)
+    assert other.stdout.readline() == "3\n"
     one.release(1)
-    assert [one.reserve(), one.reserve(), one.reserve(), one.reserve()] == [1, 3, 4, None]
-    assert one.reserve(2) is None
-    one.note(2, "begin", "00 Slot0")
-    one.note(2, "done", "")
-    assert one.reserve(2) is None
+    assert [one.reserve("C"), one.reserve("D"), one.reserve("E")] == [1, 4, None]
+    assert one.reserve("F", 2) is None
+    other.communicate("\n", timeout=60)  # its row is free again
+    assert one.reserve("F") == 3
+    assert one.begin(2, "00", "B") and one.note(2, "done", "")
+    assert one.reserve("G", 2) is None
     one.decide(2, "again")
-    assert one.reserve(2) == 2
+    assert one.reserve("G", 2) == 2
 
 
 def test_a_journal_that_is_replaced_or_removed_takes_no_row(tmp_path):
     room, file = Room(tmp_path, 2), tmp_path / "journal"
     room.create()
     journal = room.opened(2)
-    assert journal.reserve() == 1
-    (copy := tmp_path / "copy").write_bytes(file.read_bytes())
-    copy.replace(file)
-    for call in (journal.reserve, journal.undecided, lambda: journal.note(1, "begin", "00 Slot0")):
-        with pytest.raises(ValueError, match="journal was replaced: look what the last cards hold"):
-            call()
-    assert room.events() == []
-    (journal := room.opened(2)).note(1, "begin", "00 Slot0")
-    file.write_bytes(file.read_bytes()[:-9])
-    with pytest.raises(ValueError, match="journal was replaced"):
-        journal.note(1, "done", "")
-    file.unlink()
-    with pytest.raises(FileNotFoundError):
-        journal.note(1, "begin", "00 Slot0")
+    assert journal.reserve("A") == 1
+    (copy := tmp_path / "copy").write_bytes(b"")
+    for name in ("journal", "journal-wal"):
+        kept = tmp_path / "kept"
+        (tmp_path / name).rename(kept)
+        for is_there in (False, True):
+            if is_there:
+                (tmp_path / name).write_bytes(kept.read_bytes())
+            for call in (lambda: journal.reserve("B"), lambda: [*journal.undecided()],
+                         lambda: journal.begin(1, "00", "A"), lambda: journal.note(1, "done", "")):
+                with pytest.raises(ValueError, match="journal was replaced: look what the last"):
+                    call()
+        kept.rename(tmp_path / name)
+    assert journal.begin(1, "00", "A") and copy.exists() and file.exists()
 
 
 def test_a_row_that_begins_after_a_second_interrupt(tmp_path, monkeypatch):
-    """A reader that still connects keeps its row, and begins no other."""
+    """A reader that still connects begins none any more: the run's summary is out."""
     room = Room(tmp_path, 2)
     room.create()
     at = room.desk(2)
@@ -229,7 +238,7 @@ def test_a_row_that_begins_after_a_second_interrupt(tmp_path, monkeypatch):
     [reader] = [it for it in threading.enumerate() if isinstance(it, desk.Reader)]
     is_over.set()
     reader.join()
-    assert at.faults == [] and room.events() == ["begin 1", "done 1"]
+    assert at.faults == [] and room.events() == []
 
 
 def test_an_interrupt_takes_no_lock(tmp_path, monkeypatch):
@@ -275,68 +284,101 @@ def test_readers_with_long_names(tmp_path):
     assert "set aside" not in out
 
 
+# Carries out all rows, and leaves the log of the database behind, as a crash would.
+CRASHES = """import os
+from galliumtoad.batch.journal import Journal
+journal = Journal("journal")
+journal.sync([None] * 3)
+journal.start("")
+for row in 1, 2, 3:
+    journal.begin(journal.reserve("A"), "0" * 16, "A")
+    journal.identify(row, f"43{row}")
+    journal.note(row, "done", "")
+os._exit(0)
+"""
+
+
 def test_a_journal_that_was_cut(tmp_path):
-    room, file = Room(tmp_path, 3), tmp_path / "journal"
-    assert room.run()[0] == 0
-    whole = file.read_bytes()
-    heading, *lines = whole.splitlines(keepends=True)
-    assert [it.split()[0] for it in lines] == [b"begin", b"done"] * 3
-    for kept in range(len(heading), len(whole)):
-        file.write_bytes(whole[:kept])
-        count = whole[:kept].count(b"\n")
-        undecided = {} if count < 2 or count % 2 else {count // 2: "unsure"}
-        found = (journal := room.opened(3)).undecided()
-        assert {row: it.state for row, it in found.items()} == undecided
-        # the next line replaces a cut one
-        assert file.read_bytes() == whole[:kept]
-        journal.note(1, "begin", "0123456789abcdef Slot0")
-        *kept_lines, last = file.read_bytes()[len(heading) :].splitlines(keepends=True)
-        assert kept_lines == lines[: count - 1] and last.startswith(b"begin 1 20")
-    file.write_bytes(whole[:-1])
-    assert room.to_decide() == {3: "unsure"}
+    """Its log, by a crash. What is left is how the journal was at some time."""
+    room = Room(tmp_path, 3)
+    room.create(0x9F7F)
+    assert ended(room.start_program([sys.executable, "-c", CRASHES])) == ("", "")
+    whole = {it: (tmp_path / it).read_bytes() for it in ("journal", "journal-wal")}
+    log, seen = whole["journal-wal"], []
+    frame = 24 + 4096  # after a head of 32 bytes
+    cuts = {*range(0, len(log), 997), *range(32, len(log), frame), *range(31, len(log), frame)}
+    for kept in sorted({*cuts, len(log)}):
+        (tmp_path / "journal").write_bytes(whole["journal"])
+        (tmp_path / "journal-wal").write_bytes(log[:kept])
+        (tmp_path / "journal-shm").unlink(missing_ok=True)
+        journal = Journal(str(tmp_path / "journal"), True)
+        rows = [(it.number, it.state) for it in journal.begun()]
+        cards = [it[:2] for it in journal.cards()]
+        journal.close()
+        found = len(room.events()), rows, cards
+        if not seen or found != seen[-1]:
+            seen.append(found)
+    words = [*range(10)]
+    assert [it[0] for it in seen] == words
+    done = [(1, "done"), (2, "done"), (3, "done")]
+    cards = [("431", 1), ("432", 2), ("433", 3)]
+    for count, rows, held in seen:
+        ended_rows, rest = divmod(count, 3)
+        assert rows == done[:ended_rows] + [(ended_rows + 1, "unsure")] * bool(rest)
+        assert held == cards[: ended_rows + (rest == 2)]
+
+
+def test_a_run_goes_on_with_a_journal_that_was_cut(tmp_path):
+    room = Room(tmp_path, 3, SLOW="0.05")
+    run = room.start("--id=9F7F")
+    room.begun("done")
+    os.killpg(run.pid, signal.SIGKILL)
+    ended(run)
+    log = (tmp_path / "journal-wal").read_bytes()
+    (tmp_path / "journal-wal").write_bytes(log[: len(log) - 4000])
     room.decide()
-    assert room.run(go=False)[0] == 0
+    room.finish(3)
 
 
-def test_a_journal_whose_heading_was_cut(tmp_path):
-    """It has no row, so --new begins it again."""
-    room, file = Room(tmp_path, 1), tmp_path / "journal"
-    room.create()
-    whole = file.read_bytes()
-    for kept in range(len(whole)):
-        file.write_bytes(whole[:kept])
-        with pytest.raises(ValueError, match="journal is not a journal: line 1 is no heading of"):
-            room.opened(1)
-        assert file.read_bytes() == whole[:kept]
-        room.create()
-        assert file.read_bytes() == whole
-    # the one that was cut is longer
-    file.write_bytes(b"# galliumtoad.batch " + b"a" * 500)
-    room.create()
-    assert file.read_bytes() == whole
-    with pytest.raises(ValueError, match="journal exists"):
-        room.create()
+@pytest.mark.parametrize("size", range(0, 57344, 4096))
+def test_a_disk_that_is_full_at_the_creation(tmp_path, size):
+    """No row is in the journal, so --new begins it again."""
+    room = Room(tmp_path, 1)
+    out, error = ended(run := room.start_full(size))
+    if run.returncode:
+        assert run.returncode in (1, 2) and error.count("\n") == 1, error
+        assert not room.held()
+    is_made = room.run("--check", "--new")[0] == 2
+    words = [*([] if is_made else ["--new"]), "--journal=journal", *room.readers]
+    assert room.run(*words)[0] == 0 and room.cards_of(1) == (1, 1)
 
 
 def test_a_full_disk(tmp_path):
     # the same good cards for each run, however slow it is
     room = Room(tmp_path, 5, LIES="yes")
-    stopped = 0
-    for size in range(110, 900, 97):
+    room.is_apart, stopped = True, set()
+    for size in range(66000, 250000, 9111):
         room.put_in(room.names[0], 0)
-        (tmp_path / "journal").unlink(missing_ok=True)
-        for card in tmp_path.glob("cards/*"):
-            card.unlink()
+        for it in (*tmp_path.glob("journal*"), *tmp_path.glob("cards/*")):
+            it.unlink()
+        room.run("--go", "--journal=journal", "--new", "--check")
+        room.create()
         out, error = ended(run := room.start_full(size))
         if run.returncode == 0:
             continue
-        stopped += 1
-        full = ("[Errno 27] File too large", "no space is left for the journal")
+        full = ("disk I/O error", "database or disk is full")
         names = ("galliumtoad.batch", room.names[0])
-        assert error in [f"{name}: {it}\n" for it in full for name in names], error
+        assert error in [f"{name}: journal: {it}\n" for it in full for name in names], error
+        begun = {it.split()[1] for it in room.events() if it.startswith("begin")}
+        stopped.add(len(begun))
         for row in range(1, 6):
-            assert f"begin {row}" in room.events() or room.cards_of(row) == (0, 0)
-    assert stopped > 3
+            assert str(row) in begun or room.cards_of(row) == (0, 0)
+        # with room on the disk the same command continues
+        del room.environment["LIES"]
+        room.decide()
+        assert room.run(go=False)[0] == 0 and room.cards_of(5)[0] == 1
+        room.environment["LIES"] = "yes"
+    assert len(stopped) > 3
 
 
 def test_a_card_without_an_identifier_takes_no_row(tmp_path):
@@ -351,8 +393,8 @@ def test_the_card_of_a_crashed_run_waits(tmp_path):
     room = Room(tmp_path, 2)
     room.create()
     journal = room.opened(2)
-    assert journal.reserve() == 1
-    journal.note(1, "begin", f"{journal_check(room, 1)} Slot0")
+    assert journal.reserve("Slot0") == 1
+    assert journal.begin(1, journal_check(room, 1), "Slot0")
     del journal
     name, out = room.names[0], room.run(go=False)[1]
     assert out.startswith("continuing: 0 of 2 rows done, 1 unsure\n")
@@ -432,81 +474,80 @@ def test_only_its_owner_reads_a_journal_and_dialogues(tmp_path):
     assert (tmp_path / "journal.cards/1.trace").stat().st_mode & 0o777 == 0o600
 
 
-# Fields of a heading, each of another type or out of its range.
-WRONG = [("at", "1"), ("at", 0), ("at", 2), ("at", 1.0), ("at", None), ("of", "1"), ("of", 0),
-         ("of", 1.5), ("id_tag", "9F7F"), ("id_tag", 1.5), ("key", 7), ("key", "5G"), ("table", 7),
-         ("table", None), ("row", 1)]
-RIGHT = {"at": 1, "of": 1, "id_tag": None, "key": "00" * 16, "table": "rows.csv"}
-
-
 @pytest.mark.parametrize(
     "text",
-    [b"name,code\nA,00", b"\xff\xfe", b"# rows of another table", b"# rows\n"]
-    + [b"# galliumtoad.batch part 1/1\n", b"# galliumtoad.batcH part", b"a" * 70000]
-    + [b"# galliumtoad.batch " + b"[" * 60000 + b"\n"]
-    + [f"# galliumtoad.batch {json.dumps({**RIGHT, name: it})}\n".encode() for name, it in WRONG]
-    + [f"{first}{json.dumps(RIGHT)}{last}\n".encode()
-       for first, last in (("# galliumtoad.batcH ", ""), ("# galliumtoad.batch ", " "),
-                           ("# galliumtoad.batch ", " 00000000"), (" " * 20, ""))],
-)
+    [b"name,code\nA,00", b"\xff\xfe", b"# rows of another table", b"# rows\n", b"a" * 70000]
+    + [b"SQLite format 3\0", b"SQLite format 3\0" + bytes(100)]
+)  # fmt: skip
 def test_another_file_is_no_journal_and_stays(tmp_path, text):
     """Nor does one hinder the journal beside it."""
     room = Room(tmp_path, 1)
     (tmp_path / "journal").write_bytes(text)
-    wrong = "journal is not a journal: line 1 is no heading of one"
-    assert room.run() == refused(wrong)
+    assert room.run() == refused("journal is not a journal")
     assert room.run("--check", "--new", "--journal=other")[0] == 0
     assert room.run("--new") == refused("journal exists: without --new the batch continues")
     assert (tmp_path / "journal").read_bytes() == text
 
 
+def test_another_database_is_no_journal_and_stays(tmp_path):
+    room = Room(tmp_path, 1)
+    room.asked("CREATE TABLE other (it)")
+    before = (tmp_path / "journal").read_bytes()
+    assert room.run() == refused("journal is not a journal")
+    assert room.run("--new") == refused("journal exists: without --new the batch continues")
+    assert (tmp_path / "journal").read_bytes() == before
+
+
+@pytest.mark.parametrize(("words", "line"), [
+    ("UPDATE batch SET heading = heading || ' '", "is damaged: the sum of its heading is wrong"),
+    ("UPDATE batch SET sum = sum + 1", "is damaged: the sum of its heading is wrong"),
+    ("DELETE FROM batch", "is damaged: the sum of its heading is wrong"),
+    ("DROP TABLE batch", "no such table: batch"),
+])  # fmt: skip
+def test_a_wrong_heading_is_found(tmp_path, words, line):
+    room = Room(tmp_path, 1)
+    room.create()
+    room.asked(words)
+    for more in ((), ("--status",)):
+        status, out, error = room.run(*more)
+        assert (status, out) == (2, "") and line in error and error.count("\n") == 1
+    assert room.run("--check", "--new", "--journal=other")[0] == 0
+
+
+def test_another_schema_is_refused(tmp_path, monkeypatch):
+    from galliumtoad.batch import journal
+
+    room = Room(tmp_path, 1)
+    monkeypatch.setattr(journal, "SCHEMA", 2)
+    room.create()
+    monkeypatch.undo()
+    assert room.run() == refused("journal has schema 2; this program has 1")
+
+
 def test_a_journal_that_can_not_be_written_is_named(tmp_path):
     room = Room(tmp_path, 1)
     (tmp_path / "journal").mkdir()
-    wanted = refused("[Errno 21] Is a directory: 'journal'")
-    assert room.run() == room.run("--new") == wanted and not room.held()
+    assert room.run() == refused("journal is not a journal") and not room.held()
+    assert room.run("--new") == refused("journal exists: without --new the batch continues")
 
 
 def test_a_pipe_is_no_journal(tmp_path):
     room = Room(tmp_path, 1)
     os.mkfifo(tmp_path / "journal")
-    assert room.run() == refused("journal is not a journal: line 1 is no heading of one")
-    assert room.run("--new") == refused("File or stream is not seekable.")
+    assert room.run() == refused("journal is not a journal")
+    assert room.run("--new") == refused("journal exists: without --new the batch continues")
 
 
-@pytest.mark.parametrize(
-    "line",
-    ["d\0ne 1 T", "done T", "done x T", "done 0 T", "done 3 T", "done -1 T", "", "done 2 T"]
-    + ["begin 2", "begin 2 2026-01-01 00 A", "begin 2 noon 00 A"]
-    + ["begin 2 2026-01-01T00:00:00 00 A"],
-)
-def test_a_damaged_journal_is_refused(tmp_path, line):
-    room, time = Room(tmp_path, 2), "2026-01-01T00:00:00+00:00"
-    room.create()
-    check = journal_check(room, 1)
-    room.add(f"begin 1 {time} {check} A")
-    assert room.to_decide() == {1: "unsure"}
-    room.add(line.replace("T", time), f"done 1 {time}")
-    whole = (tmp_path / "journal").read_text()
-    status, out, error = room.run()
-    assert status == 2 and out == ""
-    assert "journal is damaged: line 3: no line of a journal, or no row of the table: " in error
-    assert (tmp_path / "journal").read_text() == whole
-
-
-def test_a_row_is_decided_under_one_lock(tmp_path, monkeypatch):
+def test_a_row_is_decided_in_one_step(tmp_path, monkeypatch):
     room = Room(tmp_path, 1)
     room.create()
     journal = room.opened(1)
-    journal.reserve()
-    journal.note(1, "begin", "00 Slot0")
+    journal.begin(journal.reserve("A"), "00", "A")
     journal.note(1, "unsure", "")
     steps = []
-    noted(monkeypatch, fcntl, "lockf", lambda *it: steps.append(it[1:]))
-    noted(monkeypatch, os, "pwrite", lambda *it: steps.append("written"))
+    noted(monkeypatch, journal.base, "whole", lambda work, *it: steps.append(it))
     journal.decide(1, "again")
-    mine = [it for it in steps if it == "written" or it[2] == 0]
-    assert mine == [(fcntl.LOCK_EX, 1, 0), "written", (fcntl.LOCK_UN, 1, 0)]
+    assert steps == [(True,)]
 
 
 @pytest.mark.parametrize(("first", "between"), [("", ","), ("sep=,\r\n", ","), ("sep=;\r\n", ";")])

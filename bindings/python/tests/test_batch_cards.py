@@ -55,16 +55,6 @@ def test_a_card_whose_row_is_not_done_is_refused_too(tmp_path, number, state):
     assert listed(out) == {1: state}
 
 
-def test_a_journal_that_an_editor_wrote_with_other_ends_of_lines_knows_its_cards(tmp_path):
-    room, file = Room(tmp_path, 2), tmp_path / "journal"
-    assert room.run("--id=9F7F", "--stop-after=9")[0] == 0
-    file.write_bytes(b"\r\n".join(file.read_bytes().splitlines()[:4]) + b"\r\n")
-    room.put_in(room.names[0], 0)
-    status, out, _ = room.run()
-    assert status == 0 and f"card {room.id_of(0)} has row 1, which is done" in out
-    assert room.events()[3:] == ["begin 2", "unused 2", "begin 2", "card 2", "done 2"]
-
-
 def test_again_writes_a_row_once_more_to_its_card(tmp_path):
     room = Room(tmp_path, 3)
     assert room.run("--id=9F7F")[0] == 0
@@ -142,10 +132,10 @@ def test_a_table_names_a_journal_elsewhere(tmp_path):
     assert room.run(*second)[0] == 0 and link.resolve() == tmp_path / "two/journal"
 
 
-def test_a_link_without_its_journal_s_heading_is_from_a_crash(tmp_path):
+def test_a_link_to_an_empty_file_is_from_a_crash(tmp_path):
     room = Room(tmp_path, 1)
     (tmp_path / "one").mkdir()
-    (tmp_path / "one/journal").write_text("# galli")
+    (tmp_path / "one/journal").touch()
     (link := tmp_path / "rows.csv.1-of-1.journal").symlink_to(tmp_path / "one/journal")
     words = ("--journal=one/journal", "--new", *room.readers)
     assert room.run(*words)[0] == 0 and link.resolve() == tmp_path / "one/journal"
@@ -180,7 +170,7 @@ def test_parts_meet_where_they_share_a_row():
     parts = [(at, of) for of in range(1, 7) for at in range(1, of + 1)]
     rows = {(at, of): set(range(at, 61, of)) for at, of in parts}
     for one in parts:
-        heading = Heading(*one, None, "", "")
+        heading = Heading(*one, None, "", "", "")
         assert [heading.meets(*it) for it in parts] == [bool(rows[one] & rows[it]) for it in parts]
 
 
@@ -224,5 +214,5 @@ def test_rows_may_not_go_away(tmp_path):
     room = Room(tmp_path, 2)
     assert room.run()[0] == 0
     room.write("rows.csv", "name,code\nPERSON 1,00000001\n")
-    why = "line 4: no line of a journal, or no row of the table: begin 2"
-    assert room.run("--status") == refused(f"journal is damaged: {why}")
+    wanted = refused("journal: row 2 has begun, and the table has 1 row")
+    assert room.run("--status") == room.run() == wanted

@@ -143,8 +143,9 @@ def test_machines_share_a_table(tmp_path):
     room = Room(tmp_path, 7, readers=3)
     journals = parts(room, 3)
     assert [room.cards_of(row) for row in range(1, 8)] == [(1, 1)] * 7
-    begun = [(tmp_path / f"j{at}").read_text().split("begin ")[1:] for at in (1, 2, 3)]
-    assert [[int(it.split()[0]) for it in rows] for rows in begun] == [[1, 4, 7], [2, 5], [3, 6]]
+    steps = "SELECT number FROM log WHERE word = 'begin' ORDER BY rowid"
+    begun = [[row for row, in room.asked(steps, of=f"j{at}")] for at in (1, 2, 3)]
+    assert begun == [[1, 4, 7], [2, 5], [3, 6]]
     assert room.run("--status", *journals) == (0, "7 of 7 rows done, 0 to decide\n", "")
     assert room.run("--status", *journals[:2])[1] == "5 of 5 rows done, 0 to decide\n"
     wanted = refused(f"rows.csv has another journal, {tmp_path}/j3")
@@ -162,33 +163,34 @@ def test_a_row_that_two_journals_have_is_an_error(tmp_path):
 
 def lose_power(room, disk):
     """Drops what was not on the disk for sure."""
-    kept = disk / "journal"
-    if kept.exists() and (disk / "journal.named").exists():
-        (room.path / "journal").write_bytes(kept.read_bytes())
-    else:
-        (room.path / "journal").unlink(missing_ok=True)
+    (room.path / "journal-shm").unlink(missing_ok=True)
+    for name in ("journal", "journal-journal", "journal-wal"):
+        (room.path / name).unlink(missing_ok=True)
+        if (disk / name).exists() and (disk / f"{name}.named").exists():
+            (room.path / name).write_bytes((disk / name).read_bytes())
 
 
 def test_no_row_is_on_two_cards_after_a_power_loss(tmp_path):
     (tmp_path / "room").mkdir()
     (tmp_path / "disk").mkdir()
     room, at_random = Room(tmp_path / "room", 40, readers=2), random.Random(3)
-    library = tmp_path / "on_disk.so"
+    library, counts = tmp_path / "on_disk.so", []
     warnings = ["-Wall", "-Wextra", "-Werror", "-shared", "-fPIC", "-o", library]
     subprocess.run(["cc", *warnings, HERE / "power/on_disk.c"], check=True)
     # LD_PRELOAD can't name a folder with a space
     room.environment.update(LD_PRELOAD=library.name, LD_LIBRARY_PATH=str(tmp_path))
     room.environment.update(ON_DISK=str(tmp_path / "disk"), SLOW="0.01")
+    room.is_apart = True  # so that its decisions are on that disk, too
     for _ in range(LOSSES):
         run = room.start("--id=9F7F", go=False)
-        before = -1
-        while before < 0 or len(room.events()) < before + at_random.randrange(1, 12):
+        before, steps = len(room.events()), at_random.randrange(1, 12)
+        while len(room.events()) < before + steps and run.poll() is None:
             time.sleep(0.002)
-            if (room.path / "journal").exists() and before < 0 and room.journal():
-                before = len(room.events())
-            assert run.poll() is None or "40 of 40" in run.stdout.read()
-        os.killpg(run.pid, signal.SIGKILL)
+        if run.poll() is None:
+            os.killpg(run.pid, signal.SIGKILL)
         ended(run)
         lose_power(room, tmp_path / "disk")
+        counts.append(len(room.events()))
         room.decide()
+    assert counts[-1] > counts[0] and min(counts) > 0
     room.finish(40)

@@ -1,15 +1,18 @@
-"""Tests journals of a batch that are damaged, can't be written, or are on a disk without locks."""
+"""Tests journals of a batch that are damaged, can't be written, or are on a disk without locks; and
+leases of runs."""
 
 import errno
 import fcntl
-import gzip
-import json
 import os
 import re
+import sqlite3
 import subprocess
 import sys
+import time
 
 import pytest
+from galliumtoad.batch import journal
+from galliumtoad.batch.journal import Journal
 from room import Room, ended, listed, refused
 
 
@@ -18,7 +21,7 @@ def test_a_disk_without_locks_is_refused(tmp_path, monkeypatch, number):
     """It grants each lock to each process, or none. No card is written."""
     room = Room(tmp_path, 1)
     room.create()
-    before = room.journal()
+    before = room.dump()
 
     def lock(*_):
         if number:
@@ -30,7 +33,7 @@ def test_a_disk_without_locks_is_refused(tmp_path, monkeypatch, number):
         name = "other" if "--new" in words else "journal"
         wanted = f"the disk of {name} has no locks: two runs could write one row"
         assert room.run(*words) == refused(wanted)
-    assert room.journal() == before and not room.held()
+    assert room.dump() == before and not room.held()
     assert (tmp_path / "other").read_text() == ""
 
 
@@ -77,7 +80,7 @@ def test_a_status_needs_no_right_to_write(tmp_path):
         out, error, code = read_only(room, "--status", f"--report={tmp_path}/day.csv")
         assert (code, error, listed(out)) == (1, "", {1: "unsure"})
         _, line = (tmp_path / "day.csv").read_text().splitlines()
-        assert line.startswith(f"1,{room.id_of(7)},")
+        assert line.startswith(f"1,,{room.id_of(7)},")
         assert read_only(room, "--check") == ("2 rows, and no mistake\n", "", 0)
         _, error, code = read_only(room, "--again=1")
         assert (code, error) == refused("[Errno 13] Permission denied: 'journal'")[::2]
@@ -87,22 +90,22 @@ def test_a_status_needs_no_right_to_write(tmp_path):
 
 def test_a_status_beside_a_run_and_another_status(tmp_path):
     """The row in progress is not to be decided, and a status hides no row from another one."""
-    room, time = Room(tmp_path, 3), "2026-01-01T00:00:00+00:00"
+    room, day = Room(tmp_path, 3), "2026-01-01T00:00:00+00:00"
     room.is_apart = True
     room.create()
-    room.add(f"begin 2 {time} 00 Slot0")
-    journal = room.opened(3)
-    assert journal.reserve(1) == 1
-    journal.note(1, "begin", "00 Slot0")
+    room.add(f"begin 2 {day} 00 Slot0")
+    mine = room.opened(3)
+    assert mine.reserve("Slot0", 1) == 1 and mine.begin(1, "00", "Slot0")
     asks = """from galliumtoad.batch.journal import Journal
-journal = Journal('journal', 'rows.csv', 3, True)
-print([*journal.undecided()], journal._hold(2), flush=True)
+journal = Journal('journal', True)
+print([it.number for it in journal.undecided()], flush=True)
 input()
 """
     programs = []
     for _ in range(2):
         programs.append(room.start_program([sys.executable, "-c", asks], subprocess.PIPE))
-        assert programs[-1].stdout.readline() == "[2] True\n"
+        assert programs[-1].stdout.readline() == "[2]\n"
+    assert mine.note(1, "done", "") and mine.state(1) == "done"
     for it in programs:
         it.communicate("\n", timeout=60)
 
@@ -118,109 +121,267 @@ def test_a_status_beside_a_decision_writes_it(tmp_path):
 def test_a_status_of_a_pipe_ends(tmp_path):
     room = Room(tmp_path, 1)
     os.mkfifo(tmp_path / "journal")
-    wanted = refused("journal is not a journal: line 1 is no heading of one")
-    assert room.run("--status") == wanted
+    assert room.run("--status") == refused("journal is not a journal")
 
 
-def undamaged(room):
-    """A journal with a card and both ends of a line, and what it says."""
+def test_what_only_asks_leaves_no_file(tmp_path):
+    room = Room(tmp_path, 1)
+    assert room.run()[0] == 0
+    before = {it: it.is_file() and it.read_bytes() for it in tmp_path.rglob("*")}
+    for words in ("--status", "--check", "--row=1"):
+        assert room.run(words)[0] == 0
+    assert {it: it.is_file() and it.read_bytes() for it in tmp_path.rglob("*")} == before
+
+
+def whole(room):
+    """A journal with cards, and what it says."""
     room.create(0x9F7F)
-    times = [f"2026-01-01T00:00:0{at}.000+00:00" for at in range(6)]
-    room.add(f"begin 1 {times[0]} 0123456789abcdef Slot0", f"card 1 {times[1]} 43000001",
-             f"done 1 {times[2]}", f"begin 2 {times[3]} 0123456789abcdef Slot0",
-             f"card 2 {times[4]} 43000002", f"failed 2 {times[5]} worn")
-    return (room.path / "journal").read_bytes()
+    days = [f"2026-01-01T00:00:0{at}+00:00" for at in range(6)]
+    room.opened(3).close()
+    room.add(f"begin 1 {days[0]} 0123456789abcdef Slot0", f"card 1 {days[1]} 43000001",
+             f"done 1 {days[2]}", f"begin 2 {days[3]} 0123456789abcdef Slot0",
+             f"card 2 {days[4]} 43000002", f"failed 2 {days[5]} worn")
+    return said(room.path)
 
 
-def test_each_bit_that_flips_in_a_journal_is_found(tmp_path, monkeypatch):
-    """The fault names its line, and no identifier."""
+def said(path):
+    """All that a journal says, and that its sums are right."""
+    found = Journal(str(path / "journal"), True)
+    try:
+        rows = [it[:-1] for it in found.all()]
+        steps = [found.history(row) for row in (1, 2, 3)]
+        return found.heading, rows, steps, found.cards(), found.counts()
+    finally:
+        found.close()
+
+
+def test_each_bit_that_flips_in_a_journal_is_found_or_changes_nothing(tmp_path):
+    """A database has room that it does not use."""
     room = Room(tmp_path, 3)
-    whole = undamaged(room)
-    assert sorted(room.opened(3).rows) == [1, 2]
-    file = os.open(tmp_path / "journal", os.O_RDWR)  # for all of them
-    monkeypatch.setattr(os, "open", lambda *_: os.dup(file))
-    for at in range(len(whole)):
-        line = whole[:at].count(b"\n") + 1
-        for bit in range(8):
-            os.pwrite(file, bytes([whole[at] ^ 1 << bit]), at)
-            with pytest.raises(ValueError, match=rf"journal is .*\bline {line}\b") as fault:
-                room.opened(3, True)
-            assert "43000" not in str(fault.value)
-        os.pwrite(file, whole[at : at + 1], at)
-    for size in range(len(whole) - 1, whole.index(b"\n"), -1):
-        os.ftruncate(file, size)  # what a crash cuts is no damage
-        room.opened(3, True)
+    before, found, unused = whole(room), 0, 0
+    data = (tmp_path / "journal").read_bytes()
+    room.is_apart = True
+    # each byte with a text, and some of all others
+    texts = {at for it in re.finditer(rb"[ -~]{4,}", data) for at in range(*it.span())}
+    others = range(0, len(data), 61)
+    for number, at in enumerate(sorted({*texts, *others})):
+        bit = 1 << number % 8
+        changed = data[:at] + bytes([data[at] ^ bit]) + data[at + 1 :]
+        (tmp_path / "journal").write_bytes(changed)
+        try:
+            unused += said(tmp_path) == before or pytest.fail(f"byte {at}, bit {bit}")
+        except (ValueError, OSError) as error:
+            assert "43000" not in str(error) and "\n" not in str(error)
+            found += 1
+        for name in ("journal-wal", "journal-shm"):
+            (tmp_path / name).unlink(missing_ok=True)
+    assert found > 500 and unused
 
 
-def test_a_bit_that_flips_ends_a_run_and_a_status_with_2(tmp_path):
+@pytest.mark.parametrize(("words", "what"), [
+    ("UPDATE rows SET state = 'free' WHERE number = 1", "the sum of row 1 is wrong"),
+    ("UPDATE rows SET card = '43000009' WHERE number = 2", "the sum of row 2 is wrong"),
+    ("UPDATE rows SET reader = 'Slot1' WHERE number = 1", "the sum of row 1 is wrong"),
+    ("UPDATE rows SET ended = ended + 1 WHERE number = 1", "the sum of row 1 is wrong"),
+    ("UPDATE cards SET number = 2 WHERE number = 1", "the sum of a card is wrong"),
+    ("UPDATE log SET word = 'again' WHERE number = 1", "a sum in the log of row 1 is wrong"),
+    ("DELETE FROM log WHERE number = 1 AND step = 2", "a sum in the log of row 1 is wrong"),
+])  # fmt: skip
+def test_a_change_from_elsewhere_is_found(tmp_path, words, what):
+    room = Room(tmp_path, 3)
+    whole(room)
+    room.asked(words)
+    with pytest.raises(ValueError, match=f"journal is damaged: {what}"):
+        said(tmp_path)
+
+
+def test_a_card_that_is_lost_gets_no_second_row(tmp_path):
+    """From the list of cards: the row has it still."""
+    room = Room(tmp_path, 3)
+    whole(room)
+    room.asked("DELETE FROM cards")
+    found = room.opened(3)
+    found.begin(found.reserve("Slot0"), "00", "Slot0")
+    with pytest.raises(ValueError, match="journal is damaged: UNIQUE constraint failed: rows.card"):
+        found.identify(3, "43000001")
+    cards = room.asked("SELECT card FROM rows ORDER BY number")
+    assert cards == [("43000001",), ("43000002",), (None,)]
+
+
+def test_a_damaged_journal_ends_a_run_and_a_status_with_2(tmp_path):
     room = Room(tmp_path, 2)
     assert room.run("--id=9F7F", "--part=1/2")[0] == 0
-    text = (tmp_path / "journal").read_text()
-    (tmp_path / "journal").write_text(text.replace(room.id_of(0), room.id_of(0)[:-1] + "1"))
+    room.asked("UPDATE rows SET card = '43'")
     for words in ((), ("--status",), ("--check",), ("--look=1", *room.readers), ("--done=1",)):
-        assert room.run(*words) == refused("journal is damaged: line 3: its sum is wrong")
+        wanted = refused("journal is damaged: the sum of row 1 is wrong")
+        assert room.run(*words) == wanted
 
 
-@pytest.mark.parametrize("change", [
-    lambda it: it[:1] + it[4:],  # the first row is missing
-    lambda it: it[:3] + it[2:],  # a line twice
-    lambda it: [*it[:1], *it[4:7], *it[1:4]],  # in another order
-    lambda it: it[:3] + it[4:],
-])  # fmt: skip
-def test_a_line_that_is_missing_or_in_another_place_is_found(tmp_path, change):
+def test_a_journal_s_index_is_looked_through_at_the_start(tmp_path):
+    """A card that is missing there alone would get a second row."""
     room = Room(tmp_path, 3)
-    lines = undamaged(room).splitlines(keepends=True)
-    (tmp_path / "journal").write_bytes(b"".join(change(lines)))
-    with pytest.raises(ValueError, match="journal is damaged: line [245]: its sum is wrong"):
-        room.opened(3)
+    whole(room)
+    made = sqlite3.connect(tmp_path / "journal")
+    made.executescript("PRAGMA writable_schema = ON; UPDATE sqlite_master SET rootpage ="
+                       " (SELECT rootpage FROM sqlite_master WHERE name = 'rows_by_state')"
+                       " WHERE name = 'sqlite_autoindex_cards_1'")
+    made.close()
+    for only_looks in (False, True):
+        with pytest.raises(ValueError, match="journal is damaged: "):
+            Journal(str(tmp_path / "journal"), only_looks)
 
 
-def test_a_journal_without_sums_continues_without(tmp_path):
-    """An earlier version began it."""
-    room = Room(tmp_path, 3)
-    assert room.run("--id=9F7F", "--stop-after=9")[0] == 0
-    lines = [it[:-9] for it in room.journal()]
-    (tmp_path / "journal").write_text("\n".join(lines[:4]) + "\n")
-    room.put_in(room.names[0], 1)
-    assert room.run("--status")[:2] == (1, "1 of 3 rows done, 0 to decide\n")
-    assert room.run()[0] == 0
-    assert room.events() == [f"{word} {row}" for row in (1, 2, 3)
-                             for word in ("begin", "card", "done")]
-    assert lines[0].endswith("}") and not re.search(r" [0-9a-f]{8}$", room.journal()[-1])
-    time = r"\d{4}-\d\d-\d\dT\d\d:\d\d:\d\d\.\d{3}[+-]\d\d:\d\d"
-    assert re.fullmatch(f"done 3 {time}", room.journal()[-1])
+def test_a_fault_of_the_journal_is_no_success(tmp_path, monkeypatch):
+    """The disk fails at the very last step, after the card has all."""
+    room, own = Room(tmp_path, 1), Journal.note
 
+    def note(self, row, word, reason):
+        monkeypatch.setattr(self.base, "execute", fails)
+        return own(self, row, word, reason)
 
-def test_each_line_ends_in_its_sum(tmp_path):
-    """That of gzip, over the texts of all lines up to it."""
-    room, text = Room(tmp_path, 20), ""
-    assert room.run("--id=9F7F", "--stop-after=99")[0] == 1
-    for line in room.journal():
-        text += line[:-9]
-        assert line[-9:] == f" {int.from_bytes(gzip.compress(text.encode())[-8:-4], 'little'):08x}"
-    heading, *lines = room.journal()
-    assert json.loads(heading.removeprefix("# galliumtoad.batch ")[:-9])["at"] == 1
-    assert len(lines) > 50
+    def fails(*_):
+        raise sqlite3.OperationalError("disk I/O error")
 
-
-@pytest.mark.parametrize("line", ["failed 2 2026-01-01T00:00:00+00:00 {a}", "}", "", "done 1"])
-def test_a_line_without_its_sum_is_found(tmp_path, line):
-    room = Room(tmp_path, 3)
-    (tmp_path / "journal").write_bytes(undamaged(room) + line.encode() + b"\n")
-    assert room.run("--status") == refused("journal is damaged: line 8: its sum is wrong")
-
-
-def test_a_journal_s_fault_is_no_success(tmp_path, monkeypatch):
-    """The disk fails at the very last line, which can be read still."""
-    room, own, calls = Room(tmp_path, 1), os.fsync, []
-
-    def sync(file):
-        calls.append(file)
-        if room.events()[-1:] == ["done 1"]:
-            raise OSError(errno.EIO, os.strerror(errno.EIO))
-        own(file)
-
-    monkeypatch.setattr(os, "fsync", sync)
+    monkeypatch.setattr(Journal, "note", note)
     status, out, error = room.run()
-    assert (status, error) == (1, f"{room.names[0]}: [Errno 5] Input/output error\n")
-    assert out.endswith("1 of 1 row done, 0 to decide\n") and calls
+    assert (status, error) == (2, f"{room.names[0]}: journal: disk I/O error\n")
+    monkeypatch.undo()
+    assert room.cards_of(1) == (1, 1) and room.to_decide() == {1: "unsure"}
+
+
+# Leases. Runs whose process is on another machine end by the clock alone.
+
+
+@pytest.fixture
+def kind():
+    """What makes a room."""
+    return Room
+
+
+@pytest.fixture
+def apart(monkeypatch):
+    """Another machine for each run."""
+    names = iter(range(100))
+    monkeypatch.setattr(journal, "machine", lambda: f"machine {next(names)}")
+
+
+def lapse(room, *runs):
+    """Ends the leases of runs."""
+    for it in runs:
+        room.asked("UPDATE runs SET until = until - 61 WHERE run = ?", it.run)
+
+
+def test_a_lease_ends_by_the_clock_of_the_database(tmp_path, kind, apart):
+    room = kind(tmp_path, 4)
+    room.create()
+    one, two = room.opened(4), room.opened(4)
+    assert [one.reserve("A"), one.reserve("B"), two.reserve("A")] == [1, 2, 3]
+    assert one.begin(1, "00", "A")
+    lapse(room, one)
+    assert two.state(1) == "unsure" and two.state(2) == "free"
+    with pytest.raises(ValueError, match="row 2 has not begun"):
+        two.decide(2, "done")
+    # what had not begun is free, and another run gets it
+    assert two.reserve("B") == 2
+    assert not one.begin(2, "00", "B") and room.events() == ["begin 1", "unsure 1"]
+    assert one.reserve("B") == 4
+    assert two.about(1) == "row 1, which is unsure"
+
+
+def test_a_lease_is_renewed_and_lasts_a_minute(tmp_path, kind, apart):
+    room = kind(tmp_path, 2)
+    room.create()
+    one, two = room.opened(2), room.opened(2)
+    assert one.begin(one.reserve("A"), "00", "A")
+    ends = "SELECT until FROM runs WHERE run = ?"
+    lapse(room, one)
+    for renews in (one.renew, lambda: one.begin(one.reserve("B"), "00", "B")):
+        lapse(room, one)
+        renews()
+        [(until,)] = room.asked(ends, one.run)
+        assert 58 < until - time.time() < 61
+        assert two.state(1) == "begun" and two.reserve("A") in (2, None)
+        two.release(2)
+
+
+def test_a_run_that_comes_back_may_still_tell_how_its_row_ended(tmp_path, kind, apart):
+    room = kind(tmp_path, 3)
+    room.create()
+    one, two = room.opened(3), room.opened(3)
+    for reader in ("A", "B", "C"):
+        assert one.begin(one.reserve(reader), "00", reader)
+    lapse(room, one)
+    assert two.reserve("A") is None and two.state(1) == "unsure"  # two has noted that
+    two.decide(2, "again")
+    two.decide(3, "done")
+    assert one.identify(1, "41") == 1 and one.note(1, "done", "")
+    assert one.identify(2, "42") is None and not one.note(2, "done", "")
+    assert one.identify(3, "43") is None and not one.note(3, "failed", "worn")
+    assert [two.state(row) for row in (1, 2, 3)] == ["done", "free", "done"]
+    assert two.reserve("A") == 2 and not one.note(2, "done", "")
+    assert room.asked("SELECT card FROM cards") == [("41",)]
+
+
+def test_a_decision_stays_if_the_run_comes_back_later(tmp_path, kind, apart):
+    """Also after the row went to another card."""
+    room = kind(tmp_path, 1)
+    room.create()
+    one, two = room.opened(1), room.opened(1)
+    assert one.begin(one.reserve("A"), "00", "A") and one.identify(1, "41") == 1
+    lapse(room, one)
+    two.decide(1, "again")
+    assert two.begin(two.reserve("A"), "00", "A") and two.identify(1, "42") == 1
+    assert not one.note(1, "failed", "") and two.note(1, "done", "")
+    assert not one.note(1, "done", "")
+    # the first card is not used for any other row
+    assert room.asked("SELECT card, number FROM cards") == [("41", 1), ("42", 1)]
+    assert room.asked("SELECT card, state FROM rows") == [("42", "done")]
+
+
+def test_a_row_ends_once(tmp_path, kind):
+    """If the database is lost after it has noted that, the run notes it again."""
+    room = kind(tmp_path, 1)
+    room.create()
+    one = room.opened(1)
+    assert one.begin(one.reserve("A"), "00", "A") and one.begin(1, "00", "A")
+    assert one.note(1, "done", "") and one.note(1, "done", "") and not one.note(1, "failed", "")
+    assert room.events() == ["begin 1", "begin 1", "done 1"]
+
+
+def test_a_card_of_another_station_is_refused_with_its_name(tmp_path, kind, apart):
+    room = kind(tmp_path, 2)
+    room.create()
+    one, two = (Journal(room.place, False, journal.Run(it)) for it in ("desk 1", "desk 2"))
+    one.sync([None, None])
+    for it in (one, two):
+        it.start("")
+        assert it.begin(it.reserve("A"), "00", "A")
+    assert one.identify(1, "41") == 1 and two.identify(2, "41") == 1
+    assert two.about(1) == "row 1, which is in progress at desk 1"
+    assert one.about(1) == "row 1, which is in progress"
+    assert room.asked("SELECT card FROM rows ORDER BY number") == [("41",), (None,)]
+
+
+def test_the_end_of_a_process_is_the_end_of_its_lease(tmp_path, kind):
+    """On the same machine. Elsewhere nobody knows of it."""
+    room = kind(tmp_path, 2)
+    room.create()
+    takes = """import sys
+from galliumtoad.batch import journal
+place, *where = sys.argv[1:]
+if where:
+    journal.machine = lambda: where[0]
+it = journal.Journal(place)
+it.start('')
+it.begin(it.reserve('A'), '00', 'A')
+print(flush=True)
+input()
+"""
+    mine = room.opened(2)
+    for row, where, state in ((1, [], "unsure"), (2, ["elsewhere"], "begun")):
+        words = [sys.executable, "-c", takes, room.place, *where]
+        other = room.start_program(words, subprocess.PIPE)
+        assert other.stdout.readline() == "\n" and mine.state(row) == "begun"
+        other.kill()
+        ended(other)
+        assert mine.state(row) == state

@@ -245,29 +245,13 @@ def test_check_finds_no_mistake_and_writes_nothing(tmp_path):
     assert sorted(it.name for it in tmp_path.iterdir()) == before and not room.held()
     room.create()
     assert room.run("--check") == (0, "2 rows, and no mistake\n", "")
-    whole = (journal := tmp_path / "journal").read_text()
-    for kept in (0, 1, 20, len(whole) - 1):  # as a crash may leave its heading
-        journal.write_text(whole[:kept])
-        assert room.run("--check", "--new") == (0, "2 rows, and no mistake\n", "")
-        assert journal.read_text() == whole[:kept]
-    for other in (f"{whole}begin 1 20", whole, "name,code\n"):
-        journal.write_text(other)
-        wanted = refused("journal exists: without --new the batch continues")
-        assert room.run("--check", "--new") == wanted
-        assert journal.read_text() == other
-
-
-def test_who_only_asks_does_not_mend_a_cut_line(tmp_path):
-    """The run that writes the next line does."""
-    room, journal = Room(tmp_path, 1), tmp_path / "journal"
-    room.create()
-    journal.write_text(cut := f"{journal.read_text()}begin 1 20")
-    for words in (["--check"], ["--status"], ["--look=1"]):
-        room.run(*words)
-        assert journal.read_text() == cut
-    assert room.run()[0] == 0
-    words = [it.split()[0] for it in journal.read_text().splitlines()[1:]]
-    assert words == ["begin", "done"]
+    (journal := tmp_path / "journal").write_bytes(b"")  # as a crash may leave it
+    assert room.run("--check", "--new") == (0, "2 rows, and no mistake\n", "")
+    assert journal.read_bytes() == b""
+    journal.write_text("name,code\n")
+    wanted = refused("journal exists: without --new the batch continues")
+    assert room.run("--check", "--new") == wanted
+    assert journal.read_text() == "name,code\n"
 
 
 def test_all_mistakes_are_named_at_once_up_to_twenty(tmp_path):
@@ -300,7 +284,7 @@ def test_duplicates_and_empty_texts_may_be_allowed(tmp_path, rows):
 def test_no_reader_at_all(tmp_path):
     room = Room(tmp_path, 1, readers=0)
     assert room.run("--reader=X") == refused("'X' names 0 readers; there is no reader")
-    assert room.run("--id=50") == refused("name one with --reader; there is no reader")
+    assert room.run("--id=9F7F") == refused("name one with --reader; there is no reader")
 
 
 def test_without_pyscard_one_line_names_the_package(tmp_path):
@@ -333,8 +317,8 @@ def test_without_pyscard_one_line_names_the_package(tmp_path):
      "several journals go with --status alone"),
     (["--journal=a", "--journal=b", "--status", "--again=1"],
      "several journals go with --status alone"),
-    (["--new", "--done=1"], "a new journal has no row: --new goes with a run or --check"),
-    (["--new", "--status"], "a new journal has no row: --new goes with a run or --check"),
+    (["--new", "--done=1"], "a new journal has no row: --new goes with a run, --import or --check"),
+    (["--new", "--status"], "a new journal has no row: --new goes with a run, --import or --check"),
     (["--report=rows.txt"], "a report ends in .html or .csv"),
     (["--report=rows.csv"], "the report would replace what the batch reads"),
     (["--report=here/../rows.csv"], "the report would replace what the batch reads"),
@@ -354,12 +338,13 @@ def test_no_mistake_hides_another(tmp_path):
                    "name,code\nA,1\nB\nC,2\nD,3\nD,3\n")  # fmt: skip
     where = "rows.csv line"
     assert room.run("--check", "--new")[2].splitlines() == [f"galliumtoad.batch: {it}" for it in [
-        f"{where} 3: 1 cell, but 2 columns",
         "script:1: `select`: identifier: 1 byte, but an identifier has 5 to 16",
         "script:2: `take` is no operation: it is one of select, send, get, put",
         "script:3: `put`: tag: not a tag that a command can name",
         "script:3: no column 'age': the table has 'name', 'code'",
         "script:4: `put`: value: 1 digit, an odd number",
-        *(f"{where} {at}, column 'code': 1 digit, an odd number" for at in (2, 4, 5, 6)),
+        f"{where} 2, column 'code': 1 digit, an odd number",
+        f"{where} 3: 1 cell, but 2 columns",
+        *(f"{where} {at}, column 'code': 1 digit, an odd number" for at in (4, 5, 6)),
         f"{where} 6: the same row as {where} 5",
     ]]  # fmt: skip

@@ -16,14 +16,12 @@ from datetime import datetime, timedelta, timezone
 from xml.etree import ElementTree
 
 import pytest
-from galliumtoad import Card
+from galliumtoad import Card, __version__
 from galliumtoad.batch import report
-from galliumtoad.batch.journal import Entry
+from galliumtoad.batch.journal import Entry, Run
 from galliumtoad.batch.script import Recorder, Script, carry_out, compared, identity
 from room import (AID, SCRIPT, Room, ended, folder_of_programs, interruptible, lines_up_to,
                   listed, refused, steps_of, told)
-
-TIME = r"\d{4}-\d\d-\d\dT\d\d:\d\d:\d\d\.\d{3}[+-]\d\d:\d\d"
 
 
 def test_lines_of_a_run(tmp_path):
@@ -106,13 +104,12 @@ def test_a_row_in_doubt_is_shown_with_its_card(tmp_path):
     assert lines[1] == "  --look 1 compares that card; then --done 1 or --again 1"
 
 
-def test_each_line_of_a_journal_has_its_time(tmp_path):
-    room, begun = Room(tmp_path, 1), datetime.now(timezone.utc)
+def test_each_step_in_a_journal_has_its_time(tmp_path):
+    room, begun = Room(tmp_path, 1), time.time()
     room.run("--id=9F7F")
-    times = [re.fullmatch(TIME, it.split()[2])[0] for it in room.journal()[1:]]
-    found = [datetime.fromisoformat(it) for it in times]
-    assert len(found) == 3 and found == sorted(found)
-    assert begun.replace(microsecond=0) <= found[0] and found[-1] <= datetime.now(timezone.utc)
+    times = [it for it, in room.asked("SELECT at FROM log ORDER BY step")]
+    assert len(times) == 3 and times == sorted(times)
+    assert begun - 0.01 <= times[0] and times[-1] <= time.time() + 0.01
 
 
 class Terminal:
@@ -312,7 +309,8 @@ def rows_of(page):
 
 def test_reports(tmp_path):
     room = Room(tmp_path, 4, card=10)
-    status, out, _ = room.run("--id=9F7F", "--report=day.html")
+    who = ("--station=desk 1", "--operator=Ann")
+    status, out, _ = room.run("--id=9F7F", "--report=day.html", *who)
     assert status == 1 and listed(out) == {2: "failed"}
     assert room.run("--status", "--report=day.csv")[0] == 1
     twice = room.run("--status", "--journal=journal", "--journal=journal")
@@ -320,14 +318,17 @@ def test_reports(tmp_path):
     page = ElementTree.fromstring(text := (tmp_path / "day.html").read_text())
     with open(tmp_path / "day.csv", newline="") as file:
         rows = list(csv.reader(file))
-    assert rows == rows_of(page)
-    assert rows[0] == ["row", "id", "reader", "time", "seconds", "outcome", "reason"]
+    assert [it[:10] for it in rows] == rows_of(page)
+    assert rows[0] == ["row", "key", "id", "reader", "station", "operator", "time", "seconds",
+                       "outcome", "reason", "table", "script", "version"]
     why = "put 50 was answered 9000, and read back another value"
     numbers = (10, 11, 12, 13)
     for row, (number, found) in enumerate(zip(numbers, rows[1:]), 1):
         ended = ["failed", why] if number == 11 else ["done", ""]
-        assert found[:3] == [str(row), room.id_of(number), room.names[0]] and found[5:] == ended
-        assert re.fullmatch(r"\d+\.\d", found[4]) and datetime.fromisoformat(found[3])
+        who = [str(row), "", room.id_of(number), room.names[0], "desk 1", "Ann"]
+        assert found[:6] == who and found[8:10] == ended
+        assert re.fullmatch(r"\d+\.\d", found[7]) and datetime.fromisoformat(found[6])
+        assert found[10:] == ["rows.csv", found[11], __version__] and len(found[11]) == 16
     assert "<p>3 of 4 rows done, 1 failed, 0 unsure</p>" in text and "(median)" in text
     assert "PERSON" not in text and b"PERSON".hex().upper() not in text.upper()
     line = page.find(".//polyline").get("points")
@@ -339,9 +340,11 @@ def test_reports(tmp_path):
 def test_a_report_has_the_seconds_of_a_row(tmp_path):
     begun = datetime(2026, 1, 1, tzinfo=timezone.utc)
     for seconds, shown in ((0, ""), (0.04, "0.0"), (95.26, "95.3")):
-        ended = begun + timedelta(seconds=seconds)
-        line = report._line(3, Entry("00", "Slot0", begun, ended, "done", "0A"))
-        assert line == ["3", "0A", "Slot0", "2026-01-01 00:00:00+00:00", shown, "done", ""]
+        it = Entry(3, "K7", None, "done", "", "Slot0", "0A", "00", begun.timestamp(),
+                   begun.timestamp() + seconds)
+        line = report._line(it, Run("desk 1", "Ann"))
+        assert datetime.fromisoformat(line.pop(6)) == begun
+        assert line == ["3", "K7", "0A", "Slot0", "desk 1", "Ann", shown, "done", ""]
 
 
 def test_a_report_shows_signs_as_they_are(tmp_path):
@@ -349,7 +352,7 @@ def test_a_report_shows_signs_as_they_are(tmp_path):
     name = f"<b>&R {os.getpid()}"
     room.add_reader(name)
     room.run("--reader=<b>", "--report=day.html")
-    assert rows_of(ElementTree.parse(tmp_path / "day.html"))[1][2] == name
+    assert rows_of(ElementTree.parse(tmp_path / "day.html"))[1][3] == name
 
 
 def test_the_name_of_a_reader_controls_no_terminal(tmp_path):
@@ -393,7 +396,7 @@ def test_two_processes_write_one_report(tmp_path, monkeypatch):
 
     monkeypatch.setattr(report.os, "fsync", write_another)
     report.write(path, [])
-    assert (tmp_path / "day.csv").read_text().startswith("row,id,reader,")
+    assert (tmp_path / "day.csv").read_text().startswith("row,key,id,reader,")
     assert [it.name for it in tmp_path.iterdir()] == ["day.csv"]
 
 
@@ -441,7 +444,7 @@ def test_look_finds_what_a_card_holds(tmp_path):
     words = ("--look=1", *room.readers)
     room.environment["LIES"] = "yes"
     room.put_in(room.names[0], 11)
-    before = room.journal()
+    before = room.dump()
     card = f"card {room.id_of(11)}"
     assert room.run(*words) == (1, f"row 1, {card}: partly: 2 of 3 objects\n", "")
     # a look writes nothing, also where the card differs from the row
@@ -457,7 +460,7 @@ def test_look_finds_what_a_card_holds(tmp_path):
     room.put_in(room.names[0], 5)
     assert f": {room.names[0]}: the card has no identifier 9F7F: " in room.run(*words)[2]
     assert room.run("--look=2", *room.readers) == refused("row 2 has not begun")
-    assert room.journal() == before
+    assert room.dump() == before
 
 
 def test_look_takes_the_whole_identifier(tmp_path):
@@ -504,5 +507,5 @@ def test_a_reason_shows_no_cell(tmp_path):
     room.write("script", "select A0000000031010\nput {code} @{name}\n")
     room.write("rows.csv", "name,code\nJANE,9F21\n")
     out = told(room.run("--stop-after=1")[1])
-    text = "\n".join([*out, *room.journal()])
+    text = "\n".join([*out, room.dump()])
     assert "unsure" in text and "JANE" not in text and "9F21" not in text

@@ -7,14 +7,15 @@ import re
 import statistics
 import sys
 import threading
-from datetime import datetime, timedelta, timezone
+from array import array
+from datetime import datetime, timezone
 
 import pytest
 from galliumtoad.batch import report
-from galliumtoad.batch.journal import Entry
+from galliumtoad.batch.journal import Entry, Run
 from room import Room, ended, listed
 
-BEGUN = datetime(2026, 1, 1, tzinfo=timezone.utc)
+BEGUN = datetime(2026, 1, 1, tzinfo=timezone.utc).timestamp()
 
 
 def rows_of(file):
@@ -43,7 +44,7 @@ def status(room, order=(1, 2)):
     each with its card and outcome. They must be the same."""
     names = [f"--journal=j{at}" for at in order]
     code, out, error = room.run("--status", "--report=all.csv", *names)
-    rows = {int(it[0]): (it[1], it[5], it[6]) for it in rows_of(room.path / "all.csv")}
+    rows = {int(it[0]): (it[2], it[8], it[9]) for it in rows_of(room.path / "all.csv")}
     done = sum(it[1] == "done" for it in rows.values())
     assert error == "" and code == (done != 2)
     assert out.endswith(f"{done} of 2 rows done, {len(listed(out))} to decide\n")
@@ -88,16 +89,16 @@ def test_the_first_machine_may_write_the_card_once_more(two):
     assert rows[2] == (two.id_of(0), "unsure", "its card got row 1 of j1 later")
 
 
-def test_a_report_while_other_threads_begin_rows(tmp_path, monkeypatch):
+def test_a_report_while_other_threads_begin_rows(tmp_path):
     room, file = Room(tmp_path, 5000), tmp_path / "day.csv"
     room.create()
     journal, faults = room.opened(5000), []
-    monkeypatch.setattr(os, "fsync", lambda _: None)
+    journal.base.execute("PRAGMA synchronous = OFF")
 
     def begin():
         try:
             for row in range(1, 1501):
-                journal.note(row, "begin", "00 Slot0")
+                journal.begin(journal.reserve("Slot0"), "00", "Slot0")
                 journal.note(row, "done", "")
         except Exception as error:
             faults.append(error)
@@ -118,57 +119,49 @@ def test_a_report_while_other_threads_begin_rows(tmp_path, monkeypatch):
     assert seen == sorted(seen) and len({*seen}) > 2
 
 
-def test_what_a_report_reads_does_not_change(tmp_path):
-    """As other threads write it."""
-    room = Room(tmp_path, 2)
-    room.create(0x9F7F)
-    journal = room.opened(2)
-    journal.note(1, "begin", "00 Slot0")
-    journal.identify(1, "4300")
-    rows, cards = journal.begun()
-    before = {**rows}, {**cards}
-    journal.note(1, "done", "")
-    journal.note(2, "begin", "00 Slot0")
-    journal.identify(2, "4301")
-    assert (rows, cards) == before and rows[1].state == "unsure" and [*cards] == ["4300"]
-
-
 def test_a_report_has_what_another_process_wrote(tmp_path):
     room, file = Room(tmp_path, 2), str(tmp_path / "day.csv")
     room.create()
     journal = room.opened(2)
+    before = journal.version()
     room.add("begin 2 2026-01-01T00:00:00+00:00 00 Slot0", "done 2 2026-01-01T00:00:01+00:00")
+    assert journal.version() != before
     report.write(file, [journal])
     assert [it[0] for it in rows_of(file)] == ["2"]
 
 
-def test_a_run_writes_its_report_after_each_line(tmp_path):
+def test_a_run_writes_its_report_after_each_step(tmp_path):
     room, file = Room(tmp_path, 2), tmp_path / "day.csv"
     room.create()
     at = room.desk(2)
-    at.given.report, wanted = str(file), []
-    for words in (None, ("begin", "00 Slot0"), ("failed", "worn"), ("begin", "00 Slot0")):
-        if words:
-            at.journal.note(1, *words)
-            wanted = [["1", {"begin": "unsure"}.get(words[0], words[0])]]
-        at._looked = 0  # it is time
+    at.given.report, journal = str(file), at.journal
+    for step, state in [
+        (lambda: None, None),
+        (lambda: journal.begin(journal.reserve("Slot0"), "00", "Slot0"), "begun"),
+        (lambda: journal.note(1, "failed", "worn"), "failed"),
+        (lambda: journal.decide(1, "again"), "free"),
+        (lambda: journal.begin(journal.reserve("Slot0"), "00", "Slot0"), "begun"),
+    ]:
+        step()
+        at._next = 0  # it is time
         at._turn()
-        assert [[it[0], it[5]] for it in rows_of(file)] == wanted
+        assert [[it[0], it[8]] for it in rows_of(file)] == [["1", state]] * bool(state)
     file.unlink()
-    at._looked = 0
+    at._next = 0
     at._turn()
     assert not file.exists()  # nothing has changed
 
 
 def entry(begin, seconds, state="done"):
     """A row that begins this many seconds after the first one."""
-    begun = BEGUN + timedelta(seconds=begin)
-    return Entry("00", "Slot0", begun, begun + timedelta(seconds=seconds), state)
+    return Entry(1, None, None, state, "", "Slot0", None, "00", BEGUN + begin,
+                 BEGUN + begin + seconds)
 
 
 def times_of(rows):
     """The rows and the times that a report has of these entries, the first row 1."""
-    page = report._picture(rows)
+    times, ends = [report._seconds(it) for it in rows], [it.ended for it in rows]
+    page = report.picture(array("d", times), array("d", ends))
     return [float(it) for it in re.findall(r"([-0-9.]+) s\b", page)]
 
 
@@ -181,7 +174,7 @@ def test_a_report_has_the_median_and_the_longest_time(times):
 def test_a_clock_that_goes_back_makes_no_negative_time():
     """How long that row took is unknown."""
     rows = [entry(0, 2), entry(10, -3600), entry(20, 4), entry(30, 0)]
-    assert [report._line(1, it)[4] for it in rows] == ["2.0", "", "4.0", ""]
+    assert [report._line(it, Run())[7] for it in rows] == ["2.0", "", "4.0", ""]
     assert times_of(rows) == [3.0, 4.0] and times_of([rows[1]]) == [0.0, 0.0]
 
 
@@ -192,9 +185,10 @@ def test_a_decision_does_not_make_a_card_slow(tmp_path):
     room.add(f"begin 1 {day}10:00:00+00:00 00 Slot0", f"unsure 1 {day}10:00:02+00:00 pulled",
              f"begin 2 {day}10:00:03+00:00 00 Slot0", f"done 1 {day}15:00:00+00:00 decided",
              f"done 2 {day}15:00:00+00:00 decided")
+    journal = room.opened(2)
     for name in ("day.csv", "day.html"):
-        report.write(str(tmp_path / name), [room.opened(2)])
-    found = [[it[4], *it[5:]] for it in rows_of(tmp_path / "day.csv")]
+        report.write(str(tmp_path / name), [journal])
+    found = [it[7:10] for it in rows_of(tmp_path / "day.csv")]
     assert found == [["2.0", "done", "decided"], ["", "done", "decided"]]
     page = (tmp_path / "day.html").read_text()
     assert "<p>a card took 2.0 s (median), 2.0 s at most</p>" in page
@@ -212,7 +206,7 @@ def test_a_report_has_the_rows_in_their_order(tmp_path):
 
 def test_a_report_is_on_disk_before_it_has_its_name(tmp_path, monkeypatch):
     steps, calls = [], {"fsync": os.fsync, "replace": os.replace}
-    whole = "row,id,reader,time,seconds,outcome,reason\r\n"
+    whole = ",".join([*report.HEAD, *report.MORE]) + "\r\n"
 
     def noted(name):
         def call(first, *more):
@@ -230,11 +224,16 @@ def test_a_report_is_on_disk_before_it_has_its_name(tmp_path, monkeypatch):
 
 
 def test_a_full_disk_keeps_no_part_of_a_report(tmp_path):
+    """The files of the process may be as large as the journal's are."""
     room = Room(tmp_path, 1)
     assert room.run()[0] == 0
+    text, time = "x" * 40000, "2026-01-01T00:00:00+00:00"
+    [(digest,)] = room.asked("SELECT digest FROM rows")
+    room.add(f"begin 1 {time} {digest} Slot0", *[f"failed 1 {time} {text}"] * 9,
+             f"done 1 {time} {text}")
     (tmp_path / "day.html").write_text("old")
     before = sorted(tmp_path.iterdir())
-    out, error = ended(run := room.start_full(500, "--status", "--report=day.html"))
+    out, error = ended(run := room.start_full(32768, "--status", "--report=day.html"))
     assert (run.returncode, error) == (2, "galliumtoad.batch: [Errno 27] File too large\n")
     assert sorted(tmp_path.iterdir()) == before
     assert (tmp_path / "day.html").read_text() == "old"

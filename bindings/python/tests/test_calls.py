@@ -362,11 +362,11 @@ def test_a_wrong_level_is_a_type_error(level):
 
 
 def test_a_terminal_is_reset_if_its_answer_is_lost(monkeypatch):
-    def failing():
+    def failing(status):
         raise MemoryError
 
     terminal = Terminal()
-    monkeypatch.setattr(terminal, "answer", failing)
+    monkeypatch.setattr("galliumtoad.terminal.Status", failing)
     with pytest.raises(MemoryError):
         terminal.run(lambda tpdu: b"\x90\x00", Get(0x50))
     monkeypatch.undo()

@@ -1,16 +1,15 @@
 """Tests what faults do to whole commands, TPDUs, characters and blocks: each strikes, and a card
 without a struck fault is as the library's. Expected bytes are written from the standard's forms."""
 
-import threading
-from queue import SimpleQueue
-
 import pytest
 from galliumtoad import (T1, Application, BlockError, Card, Get, Level, OwnCard, Put, Select,
                          Terminal)
-from galliumtoad.faults import (ECHO, LINE, T0, Faults, Gone, Mistake, block, head_size, one_first,
-                                read)
-from galliumtoad.simulate import Line, Simulator
+from galliumtoad.edits import block, head_size, one_by_one
+from galliumtoad.faults import ECHO, LINE, T0, Faults, Gone, read
+from galliumtoad.mistakes import Mistake
+from galliumtoad.simulate import Simulator
 from galliumtoad.trials.fixed import AID, VALUE, trials
+from line_in_memory import End, at_t0, at_t1
 
 FCI = bytes.fromhex("6F098407A0000000031010")
 OBJECT = bytes.fromhex("51820258") + VALUE
@@ -24,50 +23,6 @@ JOB = [SELECT + b"\x00", *PUTS, GET, REST, LAST]
 ANSWERS = [FCI + b"\x90\x00", *[b"\x90\x00"] * 3, OBJECT[:256] + b"\x61\x00"]
 ANSWERS += [OBJECT[256:512] + b"\x61\x5c", OBJECT[512:] + b"\x90\x00"]
 FIRST = OBJECT[:256]
-
-
-at_t0, at_t1 = Line.talk_t0, Line.talk_t1
-
-
-class End(Line):
-    """A card's end of a line, at T=0 or T=1, in a thread of its own: the line is two queues."""
-
-    def __init__(self, it, talks):
-        self.of, self.cwt, self.fault, self.blocks = it, 1.0, None, []
-        self.sent = self.ahead = b""
-        self.asks, self.characters = SimpleQueue(), SimpleQueue()
-        threading.Thread(target=self.run, args=[talks], daemon=True).start()
-        self.asks.get(timeout=60)
-
-    def run(self, talks):
-        try:
-            talks(self)
-        except Exception as fault:
-            self.fault = fault
-        self.asks.put("ended")
-
-    def read(self, seconds=0.0):
-        self.asks.put("reads")
-        return self.characters.get()
-
-    def write(self, data):
-        self.sent += data
-
-    def take_in(self, byte):
-        """Takes a character, or none if a block stopped, and returns what the card sends."""
-        self.characters.put(byte)
-        self.asks.get(timeout=60)
-        sent, self.sent = self.sent, b""
-        if self.fault:
-            raise self.fault
-        return sent
-
-    def pass_block(self, data, waits=0):
-        """Takes a block, and returns what the card sends, which `blocks` keeps."""
-        if not data:
-            return b""
-        self.blocks.append(b"".join(self.take_in(bytes([it])) for it in data))
-        return self.blocks[-1]
 
 
 def simulator(text, t=1, **more):
@@ -257,7 +212,7 @@ def test_the_byte_after_a_complement(tpdu, expected):
     ("whole", "sent"), [("ca51419000", "3551ca419000"), ("ca519000", "35519000"),
                         ("ca9000", "ca9000"), ("9000", "9000")])
 def test_data_after_a_complement(whole, sent):
-    assert one_first(bytes.fromhex(whole)).hex() == sent
+    assert one_by_one(bytes.fromhex(whole), 1).hex() == sent
 
 
 @pytest.mark.parametrize(
@@ -266,7 +221,7 @@ def test_data_after_a_complement(whole, sent):
      ("command 2, refuse 9000", 345), ("command 2, complement", 600)],
 )
 def test_what_is_stored_over_a_line(fault, size):
-    for t in (0, 1):
+    for t in (0,) if "complement" in fault else (0, 1):
         it, _ = simulator(fault, t)
         if t:
             end = End(it, at_t1)

@@ -11,8 +11,9 @@ from queue import SimpleQueue
 
 import pytest
 from galliumtoad import Application, OwnCard
-from galliumtoad.faults import block
-from galliumtoad.simulate import Simulator, serve_pty
+from galliumtoad.edits import block
+from galliumtoad.simulate import Simulator
+from galliumtoad.simulate.serve import serve_pty
 from test_applications import EXAMPLES, Card
 from waiting import AtPty, wait_until
 

@@ -10,7 +10,7 @@ import pytest
 from galliumtoad import (T1, Application, CallError, Command, CommandError, OwnCard, Session,
                          TransportError, own_card)
 from galliumtoad._library import lib
-from galliumtoad.faults import block
+from galliumtoad.edits import block
 
 
 def made(count):

@@ -100,9 +100,9 @@ def test_what_pip_reads():
     done = python("-W", "ignore", "-c", program, cwd=TOP)
     found, options, scripts, extras, limited = json.loads(done.stdout.splitlines()[-1])
     [least] = re.findall(r'requires-python = ">=3\.(\d+)"', (TOP / "pyproject.toml").read_text())
-    assert found == version() and limited == [True]
+    assert found == version() and limited == [True, True]
     assert options["py_limited_api"][1] == f"cp3{least}"
-    assert extras == {"pcsc": ["pyscard"]}
+    assert extras == {"pcsc": ["pyscard"], "postgresql": ["psycopg2"]}
     named = dict(it.split(" = ") for it in scripts["console_scripts"])
     assert named["galliumtoad"] == "galliumtoad.__main__:main"
     assert {it: named[f"galliumtoad-{it}"] for it in PROGRAMS} == {

@@ -16,9 +16,14 @@ import time
 import tty
 
 import pytest
-from galliumtoad import Application, Card, OwnCard, simulate
-from galliumtoad.faults import Faults, Mistake, block, read
-from galliumtoad.simulate import Line, Simulator, main, read_table, serve_vpcd
+from galliumtoad import Application, Card, OwnCard
+from galliumtoad.cards import read_table
+from galliumtoad.edits import block
+from galliumtoad.faults import Faults, read
+from galliumtoad.mistakes import Mistake
+from galliumtoad.simulate import Simulator, main, ports, serve, session
+from galliumtoad.simulate import vpcd as vpcd_module
+from galliumtoad.simulate.vpcd import serve_vpcd
 from galliumtoad.trials.fixed import trials
 from waiting import AtPty, wait_until
 
@@ -161,10 +166,10 @@ def test_characters_of_a_tty(monkeypatch, atr, parity):
     pseudo terminal keeps no parity, so this looks at what it was asked for."""
     _, theirs = pty.openpty()
     asked = []
-    monkeypatch.setattr(simulate.termios, "tcsetattr", lambda *words: asked.append(words[2]))
+    monkeypatch.setattr(ports.termios, "tcsetattr", lambda *words: asked.append(words[2]))
     of = Simulator(Card({bytes(5): {}}), bytes.fromhex(atr))
-    monkeypatch.setattr(Line, "talk", lambda line: of.is_over.set())
-    simulate.serve_tty(of, os.ttyname(theirs), 57600, "")
+    monkeypatch.setattr(session.Session, "run", lambda _: of.is_over.set())
+    serve.serve_tty(of, os.ttyname(theirs), 57600, "")
     [(_, _, bits, modes, *rates, _)] = asked
     wanted = termios.CS8 | termios.CREAD | termios.PARENB | termios.CSTOPB | parity
     assert bits & (wanted | termios.CSIZE | termios.PARODD) == wanted
@@ -197,9 +202,9 @@ class AtTty:
         self.line, self.theirs = pty.openpty()
         tty.setraw(self.theirs)
         self.set()
-        monkeypatch.setattr(simulate.fcntl, "ioctl", lambda *_: bits.read_bytes())
+        monkeypatch.setattr(ports.fcntl, "ioctl", lambda *_: bits.read_bytes())
         words = of, os.ttyname(self.theirs), 9600, "dsr"
-        self.thread = threading.Thread(target=simulate.serve_tty, args=words, daemon=True)
+        self.thread = threading.Thread(target=serve.serve_tty, args=words, daemon=True)
         self.thread.start()
 
     def set(self, *signals):
@@ -399,7 +404,7 @@ def test_vpcd(vpcd):
 @pytest.mark.parametrize(("fault", "least", "most"), [("mute", 2, 60), ("power off", 0, 50)])
 def test_vpcd_loses_the_card(vpcd, monkeypatch, fault, least, most):
     """A mute card leaves later than one without power. Both come again, reset."""
-    monkeypatch.setattr(simulate, "MUTE_FOR", least or 60.0)
+    monkeypatch.setattr(vpcd_module, "MUTE_FOR", least or 60.0)
     it = vpcd(f"command 2, {fault}")
     it.ask(SELECT)
     begun = time.monotonic()
@@ -427,7 +432,7 @@ def test_a_reset_by_a_fault_at_vpcd(vpcd):
 
 @pytest.mark.parametrize("words", [["--seed", "\u0661"], ["--seed", "1_0"], ["--baud", " 9600"]])
 def test_a_number_of_other_characters_is_refused(files, monkeypatch, words):
-    monkeypatch.setattr(simulate, "serve_pty", lambda *_: None)
+    monkeypatch.setattr(serve, "serve_pty", lambda *_: None)
     with pytest.raises(SystemExit):
         main(["--pty", *files(), *words])
 
@@ -435,7 +440,7 @@ def test_a_number_of_other_characters_is_refused(files, monkeypatch, words):
 def test_the_seed(files, monkeypatch):
     """It is that of the faults, and 0 if none is given."""
     found = []
-    monkeypatch.setattr(simulate, "serve_pty", lambda it, *_: found.append(it.faults.chance()))
+    monkeypatch.setattr(serve, "serve_pty", lambda it, *_: found.append(it.faults.chance()))
     for seed in (["--seed", "7"], []):
         assert main(["--pty", *files(faults="p 0.5, mute"), *seed]) == 0
     assert found == [random.Random(7).random(), random.Random(0).random()]
@@ -497,7 +502,7 @@ def test_files_of_another_system(files, monkeypatch):
     """CR before LF. A byte order mark may precede faults; no line of a script begins with one."""
     table, faults = TABLE, "\uFEFFcommand 1, mute\nafter 2, mute\n"
     found = []
-    monkeypatch.setattr(simulate, "serve_pty", lambda it, *_: found.append(it))
+    monkeypatch.setattr(serve, "serve_pty", lambda it, *_: found.append(it))
     assert main([*files(*(it.replace("\n", "\r\n") for it in (table, faults))), "--pty"]) == 0
     assert [it.values for it in found[0].faults.all] == [[], []]
 
@@ -526,8 +531,8 @@ def test_the_program_ends_with_the_reader_of_its_output(at_pty, words):
      (["--pty"], "after 1, nonsense", "after 1, nonsense\nWHAT is one of: ")],
 )
 def test_errors_before_anything_runs(files, capsys, monkeypatch, words, faults, text):
-    monkeypatch.setattr(simulate.time, "sleep", lambda _: pytest.fail("it serves a line"))
-    monkeypatch.setattr(simulate, "connected", lambda _: pytest.fail("it serves vpcd"))
+    monkeypatch.setattr(serve.time, "sleep", lambda _: pytest.fail("it serves a line"))
+    monkeypatch.setattr(vpcd_module, "connected", lambda _: pytest.fail("it serves vpcd"))
     assert main([*files(faults=faults), *words]) == 2
     out, error = capsys.readouterr()
     assert text in error and out == ""
@@ -535,7 +540,7 @@ def test_errors_before_anything_runs(files, capsys, monkeypatch, words, faults, 
 
 def test_a_reader_that_is_not_there_is_named_once(capsys, monkeypatch):
     """And each time that vpcd has asked for the card, it says so."""
-    monkeypatch.setattr(simulate, "AWAY_FOR", 0.01)
+    monkeypatch.setattr(vpcd_module, "AWAY_FOR", 0.01)
     of = Simulator(Card({bytes.fromhex(AID): {}}))
     with socket.socket() as server:
         server.bind(("localhost", 0))
@@ -581,9 +586,9 @@ def test_a_connection_with_itself_is_none(monkeypatch):
     made = socket.socket()
     made.bind(("localhost", 0))
     made.connect(made.getsockname())
-    monkeypatch.setattr(simulate.socket, "create_connection", lambda _: made)
+    monkeypatch.setattr(vpcd_module.socket, "create_connection", lambda _: made)
     with pytest.raises(ConnectionRefusedError, match="^nothing listens there$"):
-        simulate.connected("localhost:1")
+        vpcd_module.connected("localhost:1")
     assert made.fileno() == -1
 
 
@@ -602,4 +607,4 @@ def test_files_and_ports_that_are_missing(tmp_path, capsys):
         assert f"HOST:PORT is expected: {address}: " in capsys.readouterr().err
     for port in ("\u0661", "1_0", " 1"):
         with pytest.raises(Mistake):
-            simulate.connected(f"localhost:{port}")
+            vpcd_module.connected(f"localhost:{port}")

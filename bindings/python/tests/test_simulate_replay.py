@@ -12,10 +12,10 @@ from pathlib import Path
 import pytest
 from galliumtoad import T1, Command, OwnCard
 from galliumtoad.cards import Replay, typed
-from galliumtoad.faults import Mistake
+from galliumtoad.mistakes import Mistake
 from galliumtoad.simulate import Simulator, main
 from room import folder_of_programs
-from test_faults import End, at_t0, at_t1
+from line_in_memory import End, at_t0, at_t1
 from test_simulate import Vpcd
 from waiting import AtPty
 

@@ -3,14 +3,14 @@
 import pytest
 from galliumtoad import T1, Application, BlockError, Card, CallError, Get, Level, Outcome, OwnCard
 from galliumtoad import Select, Send, Terminal
-from galliumtoad.faults import block
-from galliumtoad.simulate import Line, Simulator
-from test_faults import End
+from galliumtoad.edits import block
+from galliumtoad.simulate import Simulator
+from line_in_memory import End, at_t1
 
 
 def test_gives_up():
     """On a line that loses all. After a reset of the end it talks to a card."""
-    end_of_card = End(Simulator(Card({bytes(5): {}}), b"\x3b\x80\x01\x81"), Line.talk_t1)
+    end_of_card = End(Simulator(Card({bytes(5): {}}), b"\x3b\x80\x01\x81"), at_t1)
     lines = [lambda data, waits: b"", end_of_card.pass_block]
     with T1(lambda *words: lines[0](*words)) as end, Terminal() as terminal:
         with pytest.raises(BlockError) as error:

@@ -260,7 +260,7 @@ def test_processes_of_a_terminal_end_with_it(tmp_path, monkeypatch, job):
 def test_a_line_that_nobody_reads_holds_nothing_up(monkeypatch):
     """A process that is left may keep it open, and the card waits there with its echo."""
     begun, is_read = time.monotonic(), threading.Event()
-    monkeypatch.setattr(engine, "serve_pty", lambda run, has_echo, tell: (
+    monkeypatch.setattr(engine, "serve_pty", lambda run, has_echo, tell, **_: (
         tell("/dev/null"), is_read.wait(60)))
     assert main(["--only", "select refused", "--", "true", "{tty}"]) == 2
     assert time.monotonic() < begun + 50

@@ -5,7 +5,7 @@ import importlib
 import sys
 from typing import Optional
 
-from . import __version__, faults
+from . import __version__, mistakes
 
 # Each is a module with a function `main`, which takes words and returns an exit status.
 PROGRAMS = {"batch": "personalises cards by the hundred; needs pyscard (the extra `pcsc`)",
@@ -13,7 +13,7 @@ PROGRAMS = {"batch": "personalises cards by the hundred; needs pyscard (the extr
             "trials": "lets a terminal do a job with cards that misbehave, and judges it"}
 
 
-@faults.program
+@mistakes.program
 def main(words: Optional[list[str]] = None) -> int:
     """Runs a program, or prints the help. Returns the exit status."""
     parser = argparse.ArgumentParser("galliumtoad", description="Both ends of a smart card.")

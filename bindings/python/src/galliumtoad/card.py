@@ -3,9 +3,10 @@
 from typing import Any, Collection, Mapping, NamedTuple, Optional
 
 from ._library import ffi, lib
+from ._operation import GET, PUT
 from .answers import Answer, Status
 from .handle import Bytes, Planned, copied, plain, readable, shown, tag_number, within, writable
-from .terminal import Operation, Put, call_of
+from .terminal import Operation, words_of
 
 Tables = Mapping[bytes, Mapping[int, Bytes]]
 
@@ -176,10 +177,13 @@ class Session(Holder):
         - TypeError: it is not an operation.
         - OutOfMemory: memory ran out. After another `MemoryError` it is unknown what was sent.
         """
+        kind, tag, value = words_of(operation)
+        tags = (tag,) if kind in (GET, PUT) else ()
+        values = () if kind == GET else readable(value)
         status, room = ffi.new("uint16_t *"), lib.GT_RESPONSE_LIMIT
         data, count = writable(room)
-        words = () if isinstance(operation, Put) else (data, room, count)
-        self._call(*call_of(operation), status, *words)
+        answer = () if kind == PUT else (data, room, count)
+        self._call(type(operation).__name__.lower(), *tags, *values, status, *answer)
         return Answer(Status(status[0]), copied(data, count))
 
     @property

@@ -1,109 +1,150 @@
-"""Faults of a card, one a line. Only this module changes, drops and inserts a card's bytes."""
+"""Faults of a card, one a line: their words, and when each strikes."""
 
-import contextlib
-import os
 import random
 import re
-import sys
-from functools import reduce
-from typing import Any, Callable, Iterable, Iterator, NamedTuple, Optional
+from typing import Any, Callable, Iterable, NamedTuple, Optional
 
+from .edits import (NULL, after_nulls, block, dropped, flipped, inserted, one_by_one, other_value,
+                    with_other, with_other_number, with_procedure, with_wrong_lrc, wrong_tag)
+from .mistakes import CONTROLS, Mistake
+
+# Where a fault can happen.
 ANYWHERE, LINE, T0, T1, ECHO = "anywhere", "a line", "a line at T=0", "a line at T=1", "an echo"
+MARKS = "a line with marks"
+# What happens: a command or TPDU, a block of the card, a reset, a PPS request.
+COMMAND, BLOCK, RESET, PPS = "a command", "a block", "a reset", "a PPS request"
+EVENT_PLACES = {COMMAND: ANYWHERE, BLOCK: T1, RESET: LINE, PPS: LINE}
 GET_RESPONSE, OK, MORE = b"\xC0", b"\x90\x00", b"\x61\x10"
-CONTROLS = {it: f"\\x{it:02x}" for it in range(160) if it not in range(32, 127) and it != 10}
+DEFAULT_BAUD = 9600
+
+
+class Time(NamedTuple):
+    """A time of elementary time units and seconds."""
+
+    etu: int
+    more: float
+
+    def seconds(self, etu: float = 1 / DEFAULT_BAUD) -> float:
+        """The time if a unit takes `etu` seconds.
+
+        >>> Time(9600, 0.5).seconds(), time_of("9600etu+0.5s"), time_of("2s")
+        (1.5, Time(etu=9600, more=0.5), Time(etu=0, more=2.0))
+        """
+        return self.etu * etu + self.more
+
+
+NO_TIME = Time(0, 0.0)
+
+
+def time_of(text: str) -> Time:
+    """Reads the form TIME."""
+    units, _, rest = text.lower().rpartition("etu")
+    return Time(int(units or 0), float(rest.strip("+s") or 0))
+
+
 # The forms of the words in capitals below, and what reads them.
 FORMS: dict[str, tuple[str, Callable[[str], Any]]] = {
     "N": ("[0-9]{1,7}", int), "PLACE": ("[1-9][0-9]{,6}", int),
     "CHANCE": (r"0?\.[0-9]+|1|0", float), "XX": ("[0-9A-F]{2}", bytes.fromhex),
     "BYTE": ("25[0-5]|2[0-4][0-9]|1?[0-9]?[0-9]", int), "SW": ("[69][0-9A-F]{3}", bytes.fromhex),
     "HEX": ("(?:[0-9A-F]{2})+", bytes.fromhex),
-    "SECONDS": (r"[0-9]{1,7}(?:\.[0-9]+)?s", lambda text: float(text[:-1])),
+    "TIME": (r"[0-9]{1,7}etu(?:\+[0-9]{1,7}(?:\.[0-9]+)?s)?|[0-9]{1,7}(?:\.[0-9]+)?s", time_of),
 }
-# When a fault strikes: at this command, or at what fetches its response.
-WHENS: dict[str, Callable[..., Any]] = {
-    "command N": lambda now, number: (now.count, now.part) == (number, 1),
-    "command N part PLACE": lambda now, number, part: (now.count, now.part) == (number, part),
-    **dict.fromkeys(["every XX", "INS XX once"], lambda now, ins: now.ins == ins),
-    "after N": lambda now, number: now.count > number,
-    "p CHANCE": lambda now, chance: now.chance() < chance,
+# When a fault strikes: at which event, and at which of these.
+WHENS: dict[str, tuple[str, Callable[..., Any]]] = {
+    "command N": (COMMAND, lambda now, number: (now.count, now.part) == (number, 1)),
+    "command N part PLACE": (
+        COMMAND, lambda now, number, part: (now.count, now.part) == (number, part)),
+    **dict.fromkeys(["every XX", "INS XX once"], (COMMAND, lambda now, ins: now.ins == ins)),
+    "after N": (COMMAND, lambda now, number: now.count > number),
+    "p CHANCE": (COMMAND, lambda now, chance: now.chance() < chance),
+    "command N block PLACE": (
+        BLOCK, lambda now, number, place: (now.block_of, now.block) == (number, place)),
+    "block PLACE": (BLOCK, lambda now, place: now.blocks == place),
+    "reset PLACE": (RESET, lambda now, place: now.resets == place),
+    "every reset": (RESET, lambda now: True),
+    "pps": (PPS, lambda now: True),
 }
 DATA = ("data HEX", "cut N", "add HEX", "flip N", "wrong tag", "other value")
+# Of the characters that the card sends: the time before each, how often it comes with wrong parity
+# first, and the place where the card leaves for good.
+TIMES = ("byte PLACE late TIME", "slow TIME")
+PARITIES = ("byte PLACE parity", "byte PLACE parity PLACE")
+LEAVES = "byte PLACE gone"
+SIGNAL = "signal PLACE"  # of an echo
+NOT_BYTES = (*TIMES, *PARITIES, LEAVES, "early")
+SILENT = ("mute", "power off")
+REQUESTS = ("wtx BYTE", "wtx BYTE PLACE times", "ifs BYTE", "abort")
+# Of a TPDU at T=0: what changes its first procedure byte, and what only the end of it.
+FIRST, LAST = ("procedure XX", "nulls N"), ("sw1 alone", "then HEX")
+ALONE = ("complement", "complement PLACE", "null each")
 # Where a fault can happen, and what it makes of what the card sends, or True for anything else.
 KINDS: dict[str, tuple[str, Callable[..., Any]]] = {
     "data HEX": (ANYWHERE, lambda data, new: new),
     "cut N": (ANYWHERE, lambda data, count: data[: max(len(data) - count, 0)]),
     "add HEX": (ANYWHERE, lambda data, new: data + new),
-    "flip N": (ANYWHERE, lambda data, bit: flipped(data, bit)),
-    "wrong tag": (ANYWHERE, lambda data: flipped(data, 8 * tag_size(data) - 8)),
-    "other value": (ANYWHERE, lambda data: (
-        flipped(data, *range(8 * head_size(data), 8 * len(data))))),
+    "flip N": (ANYWHERE, flipped),
+    "wrong tag": (ANYWHERE, wrong_tag),
+    "other value": (ANYWHERE, other_value),
     "status SW": (ANYWHERE, lambda status, new: new),
     "refuse SW": (ANYWHERE, lambda _, status: status), "forget": (ANYWHERE, lambda _: OK),
-    "delay SECONDS": (ANYWHERE, lambda pauses, seconds: [*pauses, seconds]),
-    **dict.fromkeys(["mute", "power off", "reset", "twice", "6C again", "61 without end"],
+    "delay TIME": (ANYWHERE, lambda pauses, time: [*pauses, time]),
+    **dict.fromkeys([*SILENT, "reset", "twice", "6C again", "61 without end"],
                     (ANYWHERE, lambda _: True)),
     "byte PLACE flip": (LINE, lambda sent, at: flipped(sent, 8 * at - 8)),
-    "byte PLACE drop": (LINE, lambda sent, at: sent[: at - 1] + sent[at:]),
-    "byte PLACE insert XX": (LINE, lambda sent, at, new: (
-        sent[: at - 1] + new + sent[at - 1 :] if at <= len(sent) else sent)),
+    "byte PLACE drop": (LINE, dropped),
+    "byte PLACE insert XX": (LINE, inserted),
+    "byte PLACE late TIME": (LINE, lambda times, at, time: (
+        (*times[: at - 1], time, *times[at:]) if at <= len(times) else times)),
+    "slow TIME": (LINE, lambda times, time: (*times[:1], *[time] * len(times[1:]))),
+    LEAVES: (LINE, lambda size, at: min(size, at - 1)),
+    "then HEX": (LINE, lambda sent, new: sent + new),
+    "early": (LINE, lambda _: True),
+    "byte PLACE parity": (MARKS, lambda wrong, at: (
+        (*wrong[: at - 1], -1, *wrong[at:]) if at <= len(wrong) else wrong)),
+    "byte PLACE parity PLACE": (MARKS, lambda wrong, at, count: (
+        (*wrong[: at - 1], count, *wrong[at:]) if at <= len(wrong) else wrong)),
+    SIGNAL: (MARKS, lambda count, more: count + more),
     "early status": (T0, lambda _: True),
-    # its first byte is a procedure byte, unless it is one of a status
-    "procedure XX": (T0, lambda sent, new: new + sent[sent.hex()[:1] not in "69" :]),
-    "nulls N": (T0, lambda sent, count: b"\x60" * count + sent),
-    # without bytes to send the card takes data, the first byte alone
-    "complement": (T0, lambda sent: one_first(sent) if sent else True),
+    "procedure XX": (T0, with_procedure),
+    "nulls N": (T0, lambda sent, count: NULL * count + sent),
+    "sw1 alone": (T0, lambda sent: sent[:-1]),
+    # without bytes to send the card takes data, this number of bytes alone
+    "complement": (T0, lambda sent: one_by_one(sent, 1) if sent else 1),
+    "complement PLACE": (T0, lambda sent, count: one_by_one(sent, count) if sent else count),
+    "null each": (T0, lambda sent: after_nulls(sent) if sent else -1),
     # the card's requests (ISO/IEC 7816-3, 11.3.2.2)
-    "wtx BYTE": (T1, lambda sent, value: sent or block(0, 0xC3, bytes([value]))),
-    "ifs BYTE": (T1, lambda sent, value: sent or block(0, 0xC1, bytes([value]))),
-    "abort": (T1, lambda sent: sent or block(0, 0xC2, b"")),
-    "nad": (T1, lambda sent: flipped(sent[:-1], 0, 5) + flipped(sent[-1:], 0, 5)),
-    "lrc": (T1, lambda sent: sent[:-1] + flipped(sent[-1:], *range(8))),
+    "wtx BYTE": (T1, lambda asks, value: [*asks, block(0, 0xC3, bytes([value]))]),
+    "wtx BYTE PLACE times": (
+        T1, lambda asks, value, count: [*asks, *[block(0, 0xC3, bytes([value]))] * count]),
+    "ifs BYTE": (T1, lambda asks, value: [*asks, block(0, 0xC1, bytes([value]))]),
+    "abort": (T1, lambda asks: [*asks, block(0, 0xC2, b"")]),
+    "nad": (T1, lambda sent: with_other(sent, 0, 0x21)),
+    "pcb XX": (T1, lambda sent, new: with_other(sent, 1, new[0])),
+    "len XX": (T1, lambda sent, new: with_other(sent, 2, new[0])),
+    "number": (T1, with_other_number),
+    "lrc": (T1, with_wrong_lrc),
+    "instead HEX": (T1, lambda sent, new: new),
     "double": (T1, lambda sent: sent + sent), "lose": (T1, lambda sent: b""),
+    # in place of its block, which it has not taken
+    "ask XX": (T1, lambda asks, new: new),
     **dict.fromkeys(["wrong echo", "wrong echo of data"], (ECHO, lambda sent: flipped(sent, 0))),
+}
+ASKS = "ask XX"
+# What changes the bytes of a line, and those of a block.
+BYTES = tuple(it for it in KINDS if KINDS[it][0] == LINE and it not in (*NOT_BYTES, *LAST))
+BLOCKS = ("nad", "pcb XX", "len XX", "number", "lrc", "instead HEX", "double", "lose", "then HEX")
+# What can happen at an event that is no command.
+AT_EVENTS = {
+    RESET: {*DATA[:4], *SILENT, "delay TIME", *BYTES, *NOT_BYTES, "then HEX"},
+    PPS: {*DATA[:4], *SILENT, "delay TIME", *BYTES, *NOT_BYTES, "then HEX"} - {"early"},
+    BLOCK: {*SILENT, "delay TIME", *BYTES, *NOT_BYTES, *BLOCKS, *REQUESTS, ASKS} - {"early"},
 }
 
 
-class Mistake(Exception):
-    """The words of a command line or of a file are refused."""
-
-
 class Gone(Exception):
-    """The card does not answer any more: it is `mute`, or its `power off`."""
-
-
-@contextlib.contextmanager
-def mistakes(what: str, *kinds: type[Exception]) -> Iterator[None]:
-    """Makes errors about a word or a file, which is `what`, a `Mistake`; or errors of `kinds`."""
-    try:
-        yield
-    except kinds or Exception as why:
-        raise why if isinstance(why, Mistake) else Mistake(f"{what}: {why}") from None
-
-
-def program(main: Callable[[Any], int]) -> Callable[..., int]:
-    """Makes a program of its `main`. The exit status is 2 after a `Mistake`, an interrupt, or if a
-    stream can't be written. A closed one is as /dev/null. No option has an empty value: some
-    versions of argparse make a list of --OPTION=--."""
-    def run(words: Optional[list[str]] = None) -> int:
-        sys.stdout, sys.stderr = (it or open(os.devnull, "w") for it in (sys.stdout, sys.stderr))
-        getattr(sys.stdout, "reconfigure", dict)(errors="backslashreplace")  # for names of files
-        words = sys.argv[1:] if words is None else words
-        try:
-            for word in words[: [*words, "--"].index("--")]:
-                if re.fullmatch("(-[^=]+=(--)?)?", word):
-                    raise Mistake(f"an empty value: '{word}'")
-            return main(words)
-        except (Mistake, OSError, KeyboardInterrupt) as why:
-            print(str(why).translate(CONTROLS) or "interrupted", file=sys.stderr)
-            return 2
-        finally:
-            try:
-                sys.stdout.flush()
-                sys.stderr.flush()
-            except OSError:
-                vars(sys).update(stdout=None, stderr=None)  # else they fail again at the end
-                sys.exit(2)
-    return run
+    """The card does not answer any more: it is `mute`, its `power off`, or it is out of the
+    reader."""
 
 
 class Fault(NamedTuple):
@@ -113,12 +154,20 @@ class Fault(NamedTuple):
     numbers: list[Any]
     kind: str
     values: list[Any]
-    place: str
 
+    @property
+    def event(self) -> str:
+        return WHENS[self.when][0]
 
-def number(text: str) -> Any:
-    """Reads a number of an option, of the digits 0 to 9 and a point. Raises `ValueError`."""
-    return (float if "." in text else int)(text if re.fullmatch(r"[0-9]+(\.[0-9]+)?", text) else "")
+    @property
+    def place(self) -> str:
+        """Where it can happen."""
+        own = KINDS[self.kind][0]
+        return EVENT_PLACES[self.event] if own == ANYWHERE else own
+
+    def edit(self, value: Any) -> Any:
+        """What it makes of a value."""
+        return KINDS[self.kind][1](value, *self.values)
 
 
 def matched(table: Iterable[str], words: str, wrong: str) -> tuple[str, list[Any]]:
@@ -130,49 +179,26 @@ def matched(table: Iterable[str], words: str, wrong: str) -> tuple[str, list[Any
     raise Mistake(f"{wrong} is one of: {', '.join(table)}")
 
 
+def read_line(words: str, place: str) -> Fault:
+    """Reads WHEN, WHAT. Raises `Mistake`."""
+    at, _, does = words.partition(",")
+    wrong = f"{place}not WHEN, WHAT of a fault: {words}\n"
+    when, numbers = matched(WHENS, at, f"{wrong}WHEN")
+    kind, values = matched(KINDS, does, f"{wrong}WHAT")
+    it = Fault(place + words, when, numbers, kind, values)
+    if kind not in AT_EVENTS.get(it.event, KINDS) or kind == "early" and it.event != RESET:
+        raise Mistake(f"{place}not at {it.event}: {words}")
+    return it
+
+
 def read(text: str, name: str = "faults") -> list[Fault]:
     """Reads the lines of a file: WHEN, WHAT. Raises `Mistake` for the first one that is wrong.
 
     >>> [(it.text, it.kind, it.values) for it in read("# one\\nINS CA once, cut 3")]
     [('faults:2: INS CA once, cut 3', 'cut N', [3])]"""
-    found = []
-    for line, words in enumerate(map(str.strip, text.splitlines()), 1):
-        if words[:1] not in ("", "#"):
-            (at, _, does), place = words.partition(","), f"{name}:{line}: "
-            wrong = f"{place}not WHEN, WHAT of a fault: {words}\n"
-            when, numbers = matched(WHENS, at, f"{wrong}WHEN")
-            kind, values = matched(KINDS, does, f"{wrong}WHAT")
-            found.append(Fault(place + words, when, numbers, kind, values, KINDS[kind][0]))
-    return found
-
-
-def block(nad: int, pcb: int, field: bytes) -> bytes:
-    """A block of T=1 with its LRC."""
-    front = bytes([nad, pcb, len(field)]) + field
-    return front + bytes([reduce(lambda a, b: a ^ b, front)])
-
-
-def flipped(data: bytes, *bits: int) -> bytes:
-    """Flips bits of the data; bit 0 is the lowest of the first byte."""
-    mask = sum(1 << it for it in bits if it < 8 * len(data))
-    return (int.from_bytes(data, "little") ^ mask).to_bytes(len(data), "little")
-
-
-def tag_size(data: bytes) -> int:
-    """How many bytes the tag of an object takes: one or two."""
-    return 1 + all(it & 31 == 31 for it in data[:1])
-
-
-def head_size(data: bytes) -> int:
-    """How many bytes the tag and the length of an object take."""
-    size = tag_size(data) + 1
-    return size + sum(it & 127 for it in data[size - 1 : size] if it > 127)
-
-
-def one_first(sent: bytes) -> bytes:
-    """INS, data and a status, but the first byte of data follows the complement of INS."""
-    ins, data = sent[:1], sent[1:-2]
-    return flipped(ins, *range(8)) + data[:1] + ins * (len(data) > 1) + sent[2:] if data else sent
+    lines = enumerate(map(str.strip, text.splitlines()), 1)
+    return [read_line(words, f"{name}:{line}: ") for line, words in lines
+            if words[:1] not in ("", "#")]
 
 
 class Faults:
@@ -182,11 +208,21 @@ class Faults:
 
     def __init__(self, found: Iterable[Fault] = (), seed: int = 0,
                  tell: Callable[[str], None] = print, since: bytes = b"") -> None:
-        self.all, self.tell, self.since = list(found), tell, since
+        self.all = list(found)
+        self.tell = tell
+        self.since = since
         self.chance = random.Random(seed).random
-        self.count, self.part, self.header, self.ins, self.was_6c = 0, 0, b"", b"", False
-        self.due, self.struck, self.pauses = list[Fault](), list[str](), list[float]()
+        self.count = self.part = 0  # of commands, and of what belongs to one
+        self.header = self.ins = b""
+        self.was_6c = False
+        self.resets = 0
+        self.blocks = self.block = self.block_of = 0  # since a reset, of a command, its number
+        self.due = list[Fault]()  # those of the command
+        self.at_once = list[Fault]()  # those of another event
+        self.struck = list[str]()
+        self.pauses = list[Time]()
         self.gone: Optional[Gone] = None  # from then on the card is silent until a reset
+        self.is_removed = False  # .. and also after one
 
     def check(self, places: Iterable[str], where: str) -> None:
         """Raises `Mistake` for the faults that can't happen at these places."""
@@ -194,19 +230,32 @@ class Faults:
             raise Mistake("\n".join(f"{it.text}: this needs {it.place}, and {where} has none"
                                     for it in wrong))
 
+    def chosen(self, event: str) -> list[Fault]:
+        """The faults of an event that has just happened."""
+        return [it for it in self.all if it.event == event and it not in self.due
+                and WHENS[it.when][1](self, *it.numbers)]
+
+    def is_before(self, header: bytes) -> bool:
+        """Whether faults do not count yet."""
+        return header[: len(self.since)] != self.since[: len(header)]
+
+    def is_same(self, header: bytes) -> bool:
+        """Whether a header belongs to the command before it."""
+        return header[1:2] == GET_RESPONSE or header[:4] == self.header and self.was_6c
+
     def begin(self, header: bytes, reset: Callable[[], None] = lambda: None) -> Optional[bytes]:
         """Chooses the faults of a TPDU or command, by its header or all of it. Calls `reset` if one
         resets the card. Returns the answer of a card that does not carry it out, or None."""
-        if header[: len(self.since)] != self.since[: len(header)]:
+        if self.is_before(header):
             self.due = []
             return None
         self.since, self.ins, le = b"", header[1:2], sum(header[4:5])
         self.part += 1
-        if self.ins != GET_RESPONSE and (header[:4] != self.header or not self.was_6c):
+        if not self.is_same(header):
             self.count, self.part, self.header = self.count + 1, 1, header[:4]
             self.due, self.struck = [], []
         self.due = [it for it in self.due if it.kind in DATA or it.place == LINE]
-        self.due += [f for f in self.all if f not in self.due and WHENS[f.when](self, *f.numbers)]
+        self.due += self.chosen(COMMAND)
         if answer := self.edited(b"", "forget", "refuse SW"):
             return bytes(answer)
         if self.edited(False, "6C again") or "6C again" in self.struck:
@@ -217,28 +266,90 @@ class Faults:
             reset()
         return None
 
+    def begin_reset(self) -> None:
+        """Chooses the faults of the next answer to reset."""
+        self.resets += 1
+        self.blocks = self.block = self.block_of = 0
+        self.due, self.struck = [], []
+        self.at_once = self.chosen(RESET)
+
+    def begin_pps(self) -> None:
+        """Chooses the faults of a PPS response."""
+        self.at_once = self.chosen(PPS)
+
+    def begin_block(self, command: Optional[bytes]) -> None:
+        """Chooses the faults of the card's next block. A command may begin with the terminal's."""
+        if command is not None and not self.is_before(command):
+            self.block_of = self.count if self.is_same(command) else self.count + 1
+            self.block = 0
+        self.blocks += 1
+        self.block += 1
+        self.at_once = self.chosen(BLOCK)
+
     def edited(self, value: Any, *which: str) -> Any:
         """What the chosen faults of these kinds or places make of a value, in the order of their
         lines. Prints those that strike. One that changes nothing does not."""
-        for it in [it for it in self.due if it.kind in which or it.place in which]:
-            if (new := KINDS[it.kind][1](value, *it.values)) != value:
-                value = new
-                self.due.remove(it)
-                self.struck.append(it.kind)
-                if it.when == "INS XX once":
-                    self.all.remove(it)
-                self.tell(f"fault at command {self.count}: {it.text}".translate(CONTROLS))
+        return self.after([*self.at_once, *self.due], value, which)
+
+    def edited_at_once(self, value: Any, *which: str) -> Any:
+        """The same with the faults of an event that is no command."""
+        return self.after(list(self.at_once), value, which)
+
+    def after(self, chosen: list[Fault], value: Any, which: tuple[str, ...]) -> Any:
+        """A value after those of these faults that are of these kinds or places."""
+        for it in chosen:
+            if it.kind in which or it.place in which:
+                new = it.edit(value)
+                if new != value:
+                    value = new
+                    self.strike(it)
         return value
 
+    def strike(self, it: Fault) -> None:
+        """Notes a fault that strikes."""
+        for chosen in (self.at_once, self.due):
+            if it in chosen:
+                chosen.remove(it)
+        self.struck.append(it.kind)
+        if it.when == "INS XX once":
+            self.all.remove(it)
+        self.tell(f"fault at {self.where(it)}: {it.text}".translate(CONTROLS))
+
+    def where(self, it: Fault) -> str:
+        """Where a fault strikes."""
+        return {COMMAND: f"command {self.count}", BLOCK: f"block {self.blocks}",
+                RESET: f"reset {self.resets}", PPS: "PPS"}[it.event]
+
+    def leave(self) -> None:
+        """Takes the card out of the reader. Raises `Gone`."""
+        self.is_removed = True
+        self.gone = Gone("gone")
+        raise self.gone
+
+    def fall_silent(self) -> None:
+        """Makes the card silent until a reset. Raises `Gone`."""
+        self.gone = Gone(self.struck[-1])
+        raise self.gone
+
+    def hold(self) -> None:
+        """At an event that is no command: `pauses` gets the time before what is sent. Raises
+        `Gone`."""
+        self.pauses = self.edited_at_once(self.pauses, "delay TIME")
+        if self.edited_at_once(False, *SILENT):
+            self.fall_silent()
+
+    def end_event(self) -> None:
+        """Ends an event that is no command."""
+        self.at_once = []
+
     def changed(self, answer: bytes) -> bytes:
-        """The answer with the faults in it. `pauses` gets the seconds before it. Raises `Gone`."""
+        """The answer with the faults in it. `pauses` gets the time before it. Raises `Gone`."""
         data, status = answer[:-2], answer[-2:]
         self.was_6c = status[:1] == b"\x6C"
         if data or status[0] not in (0x61, 0x6C):
             data = self.edited(data, *DATA)
         status = self.edited(MORE if self.edited(False, "61 without end") else status, "status SW")
-        self.pauses = self.edited(self.pauses, "delay SECONDS")
-        if self.edited(False, "mute", "power off"):
-            self.gone = Gone(self.struck[-1])
-            raise self.gone
+        self.pauses = self.edited(self.pauses, "delay TIME")
+        if self.edited(False, *SILENT):
+            self.fall_silent()
         return data + status

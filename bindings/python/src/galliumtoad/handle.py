@@ -5,13 +5,13 @@ from operator import index
 from typing import Any, Collection, Iterable, Iterator, TypeVar, Union, get_args
 
 from ._library import ffi, lib
+from ._operation import IN_PROGRESS
 from .errors import checked
 
 Bytes = Union[bytes, bytearray, memoryview]
 Self = TypeVar("Self", bound="Handle")
+MOST_TAG = 0xFFFFFF
 BYTES, COUNT = ffi.typeof("uint8_t[]"), ffi.typeof("size_t *")
-# A call enters inside `try`, since a signal's handler may raise after any call of C.
-_IN_PROGRESS = "another call of this handle is in progress"
 FUNCTIONS = {it: getattr(lib, it) for it in dir(lib) if it.startswith("gt_")}
 
 
@@ -56,7 +56,8 @@ def within(value: int, least: int, most: int, what: str) -> int:
 def tag_number(tag: int) -> int:
     """Returns a tag, the number of its one to three bytes, as in 0x5F20. Raises `ValueError` for a
     number below 0 or above 0xFFFFFF."""
-    return within(tag, 0, 0xFFFFFF, "a tag")
+    number = index(tag)
+    return number if 0 <= number <= MOST_TAG else within(number, 0, MOST_TAG, "a tag")
 
 
 class Handle:
@@ -89,10 +90,10 @@ class Handle:
               cell: Any = None) -> Any:
         """As `_call`, at less cost. With a `cell` it returns what the function has written to the
         handle's buffer, which is wiped, and set in the cell; but the code of a fault in `but`."""
-        try:
+        try:  # it enters here, since a signal's handler may raise after any call of C
             self._calls.append(name)
             if len(self._calls) > 1:
-                raise RuntimeError(_IN_PROGRESS)
+                raise RuntimeError(IN_PROGRESS)
             code = FUNCTIONS[self._start + name](self._handle, *words)
             if cell is not None and code >= 0:
                 count, written = self._count[0], self._written
@@ -108,7 +109,7 @@ class Handle:
         try:
             self._calls.append("")
             if len(self._calls) > 1:
-                raise RuntimeError(_IN_PROGRESS)
+                raise RuntimeError(IN_PROGRESS)
             yield
         finally:
             self._calls.pop()

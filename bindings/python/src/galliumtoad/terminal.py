@@ -2,12 +2,15 @@
 
 import enum
 from dataclasses import dataclass, field
+from types import MethodType
 from typing import Any, Callable, NamedTuple, Optional, Protocol, Union
 
 from ._library import ffi, lib
+from ._operation import GET, PUT, SELECT, SEND, begin, run
 from .answers import Answer, Edc, Status
-from .errors import BlockError, Outcome
-from .handle import Bytes, Handle, Lasting, copied, readable, shown, tag_number, within, writable
+from .errors import BlockError, Outcome, checked
+from .handle import (Bytes, Handle, Lasting, copied, plain, readable, shown, tag_number, within,
+                     writable)
 
 Line = Callable[[bytes, int], Bytes]
 
@@ -17,6 +20,11 @@ class Level(enum.IntEnum):
     without contacts. Neither is false."""
 
     TPDU, APDU = range(1, 3)
+
+
+# Looked up once: an access to a member of an enum is slow.
+_TPDU, _APDU = Level.TPDU, Level.APDU
+_NO_LEVEL = object()
 
 
 class Transport(Protocol):
@@ -64,6 +72,10 @@ class Put(Operation):
     tag: int
     value: Bytes = field(repr=False)
 
+    def __init__(self, tag: int, value: Bytes) -> None:
+        # as a frozen dataclass does, for half as much
+        vars(self).update(tag=tag, value=value)
+
 
 @dataclass(frozen=True)
 class Send(Operation):
@@ -73,15 +85,21 @@ class Send(Operation):
     command: Bytes = field(repr=False)
 
 
-def call_of(operation: Operation) -> list[Any]:
-    """Returns the library's name of an operation, and its arguments. Raises `TypeError`."""
-    kind = type(operation)
-    if kind not in (Select, Get, Put, Send):
-        raise TypeError(f"{kind.__name__} is not an operation")
-    words: list[Any] = [kind.__name__.lower()]
-    for name, value in vars(operation).items():
-        words += [tag_number(value)] if name == "tag" else readable(value)
-    return words
+# How each operation is begun: its kind, its tag or 0, and its data.
+_WORDS: dict[type, Callable[[Any], tuple[int, int, Bytes]]] = {
+    Select: lambda it: (SELECT, 0, it.aid),
+    Get: lambda it: (GET, tag_number(it.tag), b""),
+    Put: lambda it: (PUT, tag_number(it.tag), it.value),
+    Send: lambda it: (SEND, 0, it.command),
+}
+
+
+def words_of(operation: Operation) -> tuple[int, int, Bytes]:
+    """Returns an operation's kind, its tag or 0, and its data. Raises `TypeError`."""
+    words = _WORDS.get(type(operation))
+    if words is None:
+        raise TypeError(f"{type(operation).__name__} is not an operation")
+    return words(operation)
 
 
 class Due(NamedTuple):
@@ -241,6 +259,7 @@ class Terminal(Machine, Lasting):
 
     def __init__(self, limit: int = lib.GT_RESPONSE_LIMIT) -> None:
         super().__init__("terminal", ("new_within", within(limit, 0, 1 << 63, "a limit")))
+        self._address = int(ffi.cast("uintptr_t", self._handle))
 
     def begin(self, operation: Operation) -> None:
         """Begins an operation, and drops the last answer.
@@ -254,8 +273,7 @@ class Terminal(Machine, Lasting):
         - TypeError: it is not an operation.
         - OutOfMemory: memory ran out.
         """
-        name, *words = call_of(operation)
-        self._done(name, words)
+        checked(begin(self._address, self._calls, plain, words_of(operation)))
 
     def run(self, transport: Union[Transport, Function], operation: Operation) -> Answer:
         """Carries out an operation over a transport, and returns the card's answer.
@@ -268,30 +286,31 @@ class Terminal(Machine, Lasting):
           other than bytes, or as `answered` and `apdu`. The terminal is reset. What the card has
           done is unknown, so reset it too. `BlockError.outcome` becomes that of the operation.
         """
-        level = getattr(transport, "level", Level.TPDU if hasattr(transport, "__name__") else None)
+        # a method has the attributes of its function, but is slow to say that one is missing
+        holder = transport.__func__ if isinstance(transport, MethodType) else transport
+        level = getattr(holder, "level", _NO_LEVEL)
+        if level is _NO_LEVEL and hasattr(transport, "__name__"):
+            level = _TPDU
         if not (callable(transport) and isinstance(level, Level)):
             name = type(transport).__name__
             raise TypeError(f"{name} is neither a function nor a callable with a `level`, a Level")
-        self.begin(operation)
-        is_whole = level is Level.APDU
-        due, take = ("apdu", "responded") if is_whole else ("tpdu", "answered")
-        seen: list[int] = []  # SW1 of each response to a whole command
+        words = words_of(operation)
+        seen: list[int] = []  # 0 once it has begun, then SW1 of each response to a whole command
         try:
-            while (asked := self._due(due)) is not None:
-                came = readable(transport(asked.data))
-                self._done(take, came)
-                if is_whole:
-                    seen.append(came[0][came[1] - 2])
-            answer = self.answer()
+            found = run(self._address, self._calls, plain, words, transport, seen, level is _APDU)
+            if isinstance(found, int):
+                checked(found)
+            status, data = found
+            # as Answer(..), for half as much
+            return tuple.__new__(Answer, (Status(status), data))
         except BaseException as error:
-            if isinstance(error, BlockError) and seen:
+            if isinstance(error, BlockError) and seen[1:]:
                 # 61XX announces the response of a command that the card has carried out
                 known = Outcome.IN_PART if 0x61 in seen else Outcome.UNKNOWN
                 error.outcome = max(known, error.outcome)
-            self.reset()
+            if seen:
+                self.reset()
             raise
-        assert answer is not None, "an operation with nothing due has ended"
-        return answer
 
 
 class T1(Lasting):

@@ -1,6 +1,7 @@
 /* A library for a test of power loss, which LD_PRELOAD loads. The folder ON_DISK holds what is on
- * the disk for sure: fsync of a file copies it to ON_DISK/NAME. fsync of a folder adds an empty
- * file ON_DISK/NAME.named for each name in it. After a kill, the test drops everything else. */
+ * the disk for sure. A call of fsync or fdatasync copies a file to ON_DISK/NAME. A call of fsync
+ * for a folder adds an empty file ON_DISK/NAME.named for each name in it, and removes all others.
+ * After a kill, the test drops everything else. */
 #define _GNU_SOURCE
 
 #include <dirent.h>
@@ -47,12 +48,28 @@ static void copy(int from, const char *name)
         die(path);
 }
 
+/* Removes all files of the folder ON_DISK with the ending `.named`. */
+static void forget_names(void)
+{
+    DIR *const opened = opendir(getenv("ON_DISK"));
+    const struct dirent *it;
+    if (opened == NULL)
+        die(getenv("ON_DISK"));
+    while ((it = readdir(opened)) != NULL) {
+        const size_t length = strlen(it->d_name);
+        if (length > 6 && strcmp(it->d_name + length - 6, ".named") == 0)
+            unlinkat(dirfd(opened), it->d_name, 0);
+    }
+    closedir(opened);
+}
+
 static void name_all(const char *folder)
 {
     DIR *const opened = opendir(folder);
     const struct dirent *it;
     if (opened == NULL)
         die(folder);
+    forget_names();
     while ((it = readdir(opened)) != NULL) {
         if (it->d_type == DT_REG)
             close(created(it->d_name, ".named"));
@@ -75,4 +92,9 @@ int fsync(int file)
     else
         copy(file, strrchr(path, '/') + 1);
     return 0;
+}
+
+int fdatasync(int file)
+{
+    return fsync(file);
 }

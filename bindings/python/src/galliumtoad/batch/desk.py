@@ -20,16 +20,18 @@ from smartcard.pcsc.PCSCCardConnection import PCSCCardConnection
 
 from . import report
 from ..errors import Error
-from ..faults import CONTROLS
+from ..mistakes import CONTROLS
 from ..pyscard import transport
 from ..terminal import Put, Send, Terminal
-from .journal import Journal
-from .script import (Recorder, Refused, Rows, carry_out, check_of, compared, counted, identity,
+from .cells import Rows
+from .journal import LEASE, Journal
+from .script import (Recorder, Refused, carry_out, check_of, compared, counted, identity,
                      sentence)
 
 FAILURES_IN_A_ROW = 5
 PAUSE = 1.0  # between two looks for a reader that went away, and two reports
 PRESENT = scard.SCARD_STATE_PRESENT  # the upper 16 bits of a state count cards
+DECIDED = "a person has decided about this row meanwhile: keep this card apart"
 WIPE = "\r\x1b[K"  # removes the bar
 
 
@@ -84,8 +86,8 @@ class Desk:
         self.rows, self.journal, self.given = rows, journal, given
         self.stopped, self.keys, self.faults = threading.Event(), 0, list[str]()
         self._failures, self._alone, self._bar, self.interrupts = count(1), threading.Lock(), "", 0
-        self._begun, self._done_before = time.monotonic(), journal.count("done")
-        self._looked, self._reported, self._is_told = 0.0, -1, False
+        self._begun, self._done_before = time.monotonic(), journal.counts()["done"]
+        self._next, self._reported, self._is_told = 0.0, object(), False
 
     def say(self, it: str) -> None:
         """Prints a line above the bar."""
@@ -94,9 +96,9 @@ class Desk:
 
     def keep(self, row: int, lines: list[str]) -> None:
         """Adds a failed or unsure row's dialogue to its file. The `--stop-after`th ends the run."""
-        file, it = Path(f"{self.journal.path}.cards/{row}.trace"), self.journal.rows[row]
+        file, it = Path(self.journal.base.folder, f"{row}.trace"), self.journal.entry(row)
         about = f"# row {row}, card {it.card or 'unknown'}, {it.reader}, {it.state}"
-        about = f"{about}, {it.ended.isoformat(timespec='seconds')}: {it.reason}"
+        about = f"{about}, {report.time_of(it.ended, 'T')}: {it.reason}"
         try:
             file.parent.mkdir(0o700, exist_ok=True)
             file.touch(0o600)
@@ -113,7 +115,9 @@ class Desk:
         readers = [Reader(self, part) for part in chosen(self.given.reader)]
         # A script's background job inherits that it is ignored.
         before = signal.signal(signal.SIGINT, self._interrupt)
+        renews = threading.Thread(target=self._renew, daemon=True)
         try:
+            renews.start()
             for it in readers:
                 it.start()
             while any(it.is_alive() for it in readers) and self.interrupts < 2:
@@ -124,9 +128,16 @@ class Desk:
             for it in readers:
                 if self.interrupts < 2:
                     it.join()
-                elif it.row and self.journal.state(it.row) == "unsure":  # another may begin still
-                    it.give_up()
+            if self.interrupts > 1:  # no row begins any more
+                self.journal.end()
             print(self._bar and WIPE, end="", flush=True)
+
+    def _renew(self) -> None:
+        """Renews the lease. If that fails, the row in progress may become unsure, and no row begins
+        without a lease."""
+        while not self.stopped.wait(LEASE / 4):
+            with contextlib.suppress(OSError, ValueError):
+                self.journal.renew()
 
     def _interrupt(self, *_: object) -> None:  # may come within itself, so it takes no lock
         self.interrupts += 1
@@ -136,28 +147,35 @@ class Desk:
         if self.interrupts and not self._is_told:
             self._is_told = True
             self.say("stops after the cards in progress; Ctrl-C again stops at once")
-        if time.monotonic() >= self._looked + PAUSE:
-            self._looked, size = time.monotonic(), os.path.getsize(self.journal.path)
-            try:
-                if size != self._reported:
-                    report.write(self.given.report, [self.journal])
-            except OSError as error:
-                self.say(f"no report: {error}")
-            self._reported = size
-            if sys.stdout.isatty():  # a bar, with the rate and the time left
-                done, all_of = self.journal.count("done"), len(self.journal.numbers)
-                rate = (done - self._done_before) / max(self._looked - self._begun, 0.1) * 60
-                left = f", {(all_of - done) / rate:.0f} min left" if rate else ""
-                full = f"{'#' * (all_of and done * 20 // all_of):-<20}"
-                with self._alone:
-                    of = counted(all_of, "row")
-                    self._bar = f"[{full}] {done:,} of {of}, {rate:.0f} a minute{left}"
-                    print(f"{WIPE}{self._bar}", end="", flush=True)
+        if (begun := time.monotonic()) >= self._next:
+            self._show(begun)
+            # A large table is looked at rarely.
+            self._next = begun + max(PAUSE, 50 * (time.monotonic() - begun))
         time.sleep(0.1)
         # A job in the background must not read, nor one of another session than its terminal.
         with contextlib.suppress(OSError):
             if sys.stdin and sys.stdin.isatty() and os.tcgetpgrp(0) == os.getpgrp():
                 self.keys += bool(select.select([sys.stdin], [], [], 0)[0] and os.read(0, 1 << 16))
+
+    def _show(self, now: float) -> None:
+        """Writes the report, and draws the bar with the rate and the time left."""
+        version = self.journal.version()
+        try:
+            if version != self._reported:
+                report.write(self.given.report, [self.journal])
+        except OSError as error:
+            self.say(f"no report: {error}")
+        self._reported = version
+        if sys.stdout.isatty():
+            counts = self.journal.counts()
+            done, all_of = counts["done"], sum(counts.values())
+            rate = (done - self._done_before) / max(now - self._begun, 0.1) * 60
+            left = f", {(all_of - done) / rate:.0f} min left" if rate else ""
+            full = f"{'#' * (all_of and done * 20 // all_of):-<20}"
+            with self._alone:
+                of = counted(all_of, "row")
+                self._bar = f"[{full}] {done:,} of {of}, {rate:.0f} a minute{left}"
+                print(f"{WIPE}{self._bar}", end="", flush=True)
 
 
 class Reader(threading.Thread):
@@ -196,14 +214,15 @@ class Reader(threading.Thread):
         self.give_up()
 
     def give_up(self) -> None:
-        if self.row:
-            self.journal.release(self.row)
-        self.row = None
+        row, self.row = self.row, None
+        with contextlib.suppress(OSError, ValueError):  # its lease ends by itself
+            if row:
+                self.journal.release(row)
 
     def _may_continue(self) -> bool:
         if self.desk.stopped.is_set() or self.desk.interrupts or self.failures >= FAILURES_IN_A_ROW:
             return False
-        return self.row is not None or self.journal.count("free") > 0
+        return self.row is not None or self.journal.has_free()
 
     def _say(self, what: str) -> None:
         self.desk.say(f"{self.reader}: {what}")
@@ -218,7 +237,7 @@ class Reader(threading.Thread):
         while self._may_continue():
             if lies and self.desk.keys > keys:
                 used = -1
-            self.row = self.row or self.journal.reserve()
+            self.row = self.row or self.journal.reserve(self.reader)
             if self.row and known & PRESENT and known >> 16 != used:
                 try:
                     card, asked = connected(self.reader), 0
@@ -240,7 +259,7 @@ class Reader(threading.Thread):
     def _serve_card(self, card: Any) -> None:
         """Gives a card the row that is held, or the one that it has."""
         if own := self._carry_out(card):
-            self.row = self.journal.reserve(own)
+            self.row = self.journal.reserve(self.reader, own)
             if self.row is None:
                 self._say(f"row {own} is in progress: wait for it, and insert the card again")
             else:  # only selects and gets were carried out so far
@@ -258,29 +277,33 @@ class Reader(threading.Thread):
             nonlocal own
             if heading.id_tag is not None:
                 found = identity(terminal, recorder, heading.id_tag)
-                own = self.journal.identify(row, found)
+                own = self.journal.identify(row, found) or 0
                 if own != row:
-                    state = self.journal.state(own)
-                    raise Refused(f"card {found} has row {own}, which is {state}")
+                    raise Refused(f"card {found} has {self.journal.about(own)}" if own else DECIDED)
 
-        self.journal.note(row, "begin", f"{check_of(steps, heading.key)} {self.reader}")
+        if not self.journal.begin(row, check_of(steps, heading.salt), self.reader):
+            self.row = self.journal.reserve(self.reader)  # the lease had ended
+            return self._carry_out(card) if self.row else None
         word, reason = carry_out(steps, recorder, identify)
-        self.journal.note(row, word, reason)
-        self.row = None
-        if own != row and self.journal.state(own) == "free":
+        is_noted, self.row = self.journal.note(row, word, reason), None
+        if own not in (0, row) and self.journal.state(own) == "free":
             return own
-        card, took = self.journal.rows[row].card, f"{time.monotonic() - begun:.1f} s"
-        self._say(f"row {row} {word}{card and f', card {card}'}, {took}{reason and f': {reason}'}")
+        self._end(row, word, reason if is_noted else DECIDED, time.monotonic() - begun)
         if own == row:
             self.failures = 0 if word == "done" else self.failures + 1
         if word in ("failed", "unsure"):
             self.desk.keep(row, recorder.lines)
         return None
 
+    def _end(self, row: int, word: str, reason: str, took: float) -> None:
+        card = self.journal.entry(row).card
+        about = f"{card and f', card {card}' or ''}, {took:.1f} s{reason and f': {reason}'}"
+        self._say(f"row {row} {word}{about}")
+
 
 def look(rows: Rows, journal: Journal, given: argparse.Namespace) -> int:
     """Waits for a card in the only reader, and compares it with a row. Returns the exit status."""
-    if (row := given.look) not in journal.rows:
+    if (it := journal.entry(row := given.look)).begun is None:
         raise ValueError(f"row {row} has not begun")
     if len(names := chosen(given.reader)) != 1:
         raise ValueError("--look needs one reader")
@@ -292,7 +315,7 @@ def look(rows: Rows, journal: Journal, given: argparse.Namespace) -> int:
         known = state_of(connection, name, known, 500)
     try:
         reader = transport(opened := connected(name))
-        if wanted := journal.rows[row].card:
+        if wanted := it.card:
             with Terminal() as terminal:
                 for step in takewhile(lambda it: not isinstance(it.operation, (Put, Send)), steps):
                     terminal.run(reader, step.operation)

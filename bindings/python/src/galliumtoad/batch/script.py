@@ -1,14 +1,10 @@
 """What a batch writes to cards: operations as gt_pcsc takes them, with columns of a table in the
 words; and how it does so. A `ValueError` has all mistakes, one a line, without a value."""
 
-import argparse
-import csv
 import functools
-import io
 import re
 from datetime import datetime
 from hashlib import blake2b
-from itertools import islice
 from pathlib import Path
 from typing import Any, Callable, Iterator, Mapping, NamedTuple, Optional
 
@@ -18,7 +14,6 @@ from ..terminal import Get, Level, Operation, Put, Select, Send, Terminal, Trans
 _COLUMN = re.compile(r"\{([^{}]*)\}")
 VALUE_LIMIT = 64 * 255  # the data of 64 commands
 Row = Mapping[str, str]
-Rows = list[list["Step"]]
 
 
 class Step(NamedTuple):
@@ -27,6 +22,7 @@ class Step(NamedTuple):
     line: int
     shown: str
     hides_header: bool
+    is_secret: bool
     operation: Operation
 
 
@@ -116,9 +112,10 @@ _KINDS: dict[str, tuple[Any, ...]] = {"select": (Select, identifier), "send": (S
 _KINDS |= {"get": (Get, tag), "put": (Put, tag, value)}
 
 
-# A line of a format: the column's name, and the format with its size or its form.
-_FORMAT = re.compile("column ([^ ]+) ((?:hex|digits|text)(?: [1-9][0-9]{0,4})?"
-                     "|date(?: (?:YYYY|YY|MM|DD|[-./])+)?)")
+# A line about a column: its name, whether it is secret, and its format with its size or form.
+_SECRET = re.compile("(?m)^ *column +([^ ]+) +secret(?= |\r?$)")
+_FORMAT = re.compile("column ([^ ]+)(?: secret)?(?: ((?:hex|digits|text)(?: [1-9][0-9]{0,4})?"
+                     "|date(?: (?:YYYY|YY|MM|DD|[-./])+)?)|(?<= secret))")
 _DAY = {"YYYY": "%Y", "YY": "%y", "MM": "%m", "DD": "%d"}
 _SHORTENED = re.compile("-?[0-9]+([.,][0-9]*)?E[+-][0-9]+")  # by a spreadsheet
 
@@ -143,11 +140,12 @@ def misfit(cell: str, form: str) -> str:
 
 
 class Script:
-    """The operations of a file, one a line, the formats of columns, and the mistakes in them."""
+    """The operations of a file, one a line, the formats of columns, and the mistakes in them. The
+    table may lack columns that are secret."""
 
     def __init__(self, path: str, text: str, columns: list[str]) -> None:
         self.lines, self.wrong, self._columns = dict[int, list[str]](), list[str](), columns
-        self.formats = list[tuple[str, str]]()
+        self.formats, self.secrets = list[tuple[str, str]](), {*_SECRET.findall(text)}
         self._fixed = functools.cache(functools.partial(meaning, row={}))  # reads a file once
         for number, line in enumerate(text.replace("\r\n", "\n").split("\n"), 1):
             words = [it for it in line.split(" ") if it]
@@ -159,7 +157,7 @@ class Script:
         """Yields the mistakes of a line, and keeps its words if there are as many as it takes."""
         if (first := words[0]) == "column":
             if found := _FORMAT.fullmatch(" ".join(words)):
-                self.formats.append((found[1], found[2]))
+                self.formats += [(found[1], found[2])] * bool(found[2])
                 yield from self._unknown(found[1])
             else:
                 what = "hex, digits, text or date, with its size"
@@ -178,9 +176,18 @@ class Script:
                 for it in _COLUMN.findall(word):
                     yield from self._unknown(it)
 
+    def sums(self) -> tuple[str, str]:
+        """Returns the sum of the operations, with the files that they name, and that of the lines
+        about columns."""
+        said = [[words[0], *(it if _COLUMN.search(it) else self._fixed(reads, it)
+                             for reads, it in zip(_KINDS[words[0]][1:], words[1:]))]
+                for words in self.lines.values()]
+        return digest(said).hex(), digest((self.formats, sorted(self.secrets))).hex()
+
     def _unknown(self, name: str) -> Iterator[str]:
         """Yields the mistake of a name that is not that of one column."""
-        if (number := self._columns.count(name)) != 1:
+        number = self._columns.count(name)
+        if number != 1 and not (number == 0 and name in self.secrets):
             what = f"{number} columns" if number else "no column"
             listed = ", ".join(map(repr, filter(None, self._columns))) or "no columns"
             yield f"{what} '{name}': the table has {listed}"
@@ -205,64 +212,26 @@ class Script:
             if len(made) == len(readers):
                 shown = " ".join(words[:2] if words[0] in ("get", "put") else words[:1])
                 hides = words[0] != "select" and bool(_COLUMN.search(words[1]))
-                steps.append(Step(line, shown, hides, kind(*made)))
+                is_secret = bool(self.secrets.intersection(_COLUMN.findall(" ".join(words))))
+                steps.append(Step(line, shown, hides, is_secret, kind(*made)))
         return steps
 
 
-def check_of(steps: list[Step], key: str) -> str:
-    """Returns a sum of what is sent for a row, under a journal's key."""
-    operations = (it.operation for it in steps)
-    said = [(type(it).__name__, *sorted(vars(it).items())) for it in operations]
-    return blake2b(repr(said).encode(), key=bytes.fromhex(key), digest_size=8).hexdigest()
-
-
-def rows_of(path: str) -> tuple[list[str], dict[str, Row], list[str]]:
-    """Returns a table's columns, which its first line names, its rows by place, its mistakes. A
-    spreadsheet may write a line before it that names what is between cells."""
-    text, columns, rows, wrong = read(path), list[str](), dict[str, Row](), list[str]()
-    named = re.match(r"sep=([^\w\s\"]|\t)\r?\n", text)
-    between = named[1] if named else max(",;\t", key=text.split("\n", 1)[0].count)
-    source = csv.reader(io.StringIO(text, ""), delimiter=between, strict=True)
-    try:
-        columns, last = next(islice(source, bool(named), None), []), source.line_num
-        for cells in source:
-            line, last = last + 1, source.line_num  # a quoted cell may contain lines
-            if cells and len(cells) != len(columns):
-                has = counted(len(cells), "cell")
-                wrong.append(f"{path} line {line}: {has}, but {len(columns)} columns")
-            elif cells:
-                rows[f"{path} line {line}"] = dict(zip(columns, cells))
-    except csv.Error as error:
-        wrong.append(f"{path} line {source.line_num}: {error}")
-    return columns, rows, wrong or [f"{path} has no row"] * (not rows)
-
-
-def doubtful(rows: dict[str, Row], script: Script) -> Iterator[str]:
-    """Yields what --allow-duplicates allows."""
+def texts_of(script: Script) -> list[str]:
+    """Returns the columns whose texts a script stores."""
     words = [it for line in script.lines.values() for it in line if it[0] == "@"]
-    texts = sorted({found[1] for it in words if (found := _COLUMN.fullmatch(it, 1))})
-    seen, ids = dict[tuple[str, ...], str](), dict[tuple[str, str], str]()
-    for where, row in rows.items():
-        yield from (f"{where}, column {it!r}: empty" for it in texts if row.get(it) == "")
-        if (first := seen.setdefault(tuple(row.values()), where)) != where:
-            yield f"{where}: the same row as {first}"
-            continue
-        for it in [it for it in row.items() if it[0].lower() == "id"]:
-            if (first := ids.setdefault(it, where)) != where:
-                yield f"{where}, column {it[0]!r}: the same as in {first}"
+    return sorted({found[1] for it in words if (found := _COLUMN.fullmatch(it, 1))})
 
 
-def steps_of(given: argparse.Namespace) -> Rows:
-    """Returns the steps for each row. Each file is read once: it may be a pipe, or change."""
-    columns, rows, wrong = rows_of(given.rows)
-    script = Script(given.script, read(given.script), columns)
-    wrong += script.wrong if columns else []
-    steps = [script.steps(row, where, wrong) for where, row in rows.items()]
-    if not given.allow_duplicates:
-        wrong += doubtful(rows, script)
-    if wrong:
-        raise ValueError("\n".join(dict.fromkeys(wrong)))
-    return steps
+def digest(said: object, key: bytes = b"") -> bytes:
+    return blake2b(repr(said).encode(), key=key, digest_size=8).digest()
+
+
+def check_of(steps: list[Step], salt: str) -> str:
+    """Returns a sum of what is sent for a row, without secrets, with a journal's salt."""
+    said = [(type(it.operation).__name__, *sorted(vars(it.operation).items())) if not it.is_secret
+            else it.shown for it in steps]
+    return digest(said, bytes.fromhex(salt)).hex()
 
 
 class Refused(Exception):

@@ -9,7 +9,8 @@ from typing import Callable, Iterable, Optional, Union
 
 from .. import Application, Atr, AtrError, Command, OwnCard
 from ..cards import Replay, application
-from ..faults import ANYWHERE, DATA, ECHO, LINE, T0, T1, Mistake
+from ..faults import ANYWHERE, DATA, ECHO, LINE, T0, T1
+from ..mistakes import Mistake
 from .dialogue import FAULT, Dialogue, Exchange, Step
 from .engine import Job, Terminal, tried
 from .fixed import ATRS
@@ -29,12 +30,11 @@ class AnyRun(Run):
         self.usual = usual
         self.dialogue = Dialogue()
         self.asked = list[bytes]()  # of the application, by the last command
-        self.watch(card)
+        self.note_asked(card)
         super().__init__(trial, OwnCard(card), getattr(card, "atr", b"") or ATRS[protocol])
         self.carried_out = lambda command: self.commands.extend(self.asked)
-        self.faults.tell = self.strike
 
-    def watch(self, card: Application) -> None:
+    def note_asked(self, card: Application) -> None:
         """Lets an application note what it is asked. The fault `twice` asks once more, but then
         the command has been taken."""
         own, its_reset = card.carry_out, card.reset
@@ -52,7 +52,7 @@ class AnyRun(Run):
 
     def strike(self, said: str) -> None:
         """Takes the line of a fault that strikes."""
-        self.struck.append(said)
+        super().strike(said)
         self.dialogue.note(f"{FAULT}{said.rpartition(': ')[2]}")
 
     def reset(self) -> None:
@@ -103,6 +103,7 @@ class AnyJob(Job):
 
     def __init__(self, card: Union[Replay, str], is_line: bool, protocol: int) -> None:
         self.card, self.is_line, self.protocol = card, is_line, protocol
+        self.has_echo = True
 
     def new_card(self) -> Application:
         """A card for one run. Raises `Mistake`."""
@@ -138,7 +139,9 @@ class AnyJob(Job):
         """Where faults can happen."""
         if not self.is_line:
             return {ANYWHERE}
-        return {ANYWHERE, T1} if self.is_t1 else {ANYWHERE, LINE, T0, ECHO}
+        if self.is_t1:
+            return {ANYWHERE, T1}
+        return {ANYWHERE, LINE, T0, *([ECHO] if self.has_echo else [])}
 
     @property
     def steps(self) -> list[Step]:

@@ -17,8 +17,10 @@ from select import select
 from subprocess import DEVNULL, PIPE, STDOUT, Popen, TimeoutExpired
 from typing import Any, Iterator, Mapping, Optional, Sequence, Union
 
-from ..faults import CONTROLS, Mistake
-from ..simulate import connected, serve_pty, talk_vpcd
+from ..mistakes import CONTROLS, Mistake
+from ..simulate.serve import serve_pty, serve_tty
+from ..simulate.vpcd import connected, talk_vpcd
+from .by_hand import Hand, asked
 from .run import Run
 from .trial import Trial
 
@@ -33,7 +35,8 @@ NO_MESSAGE = re.compile("[0-9A-Fa-f ]{180}")  # a line with a value
 class Terminal:
     """A terminal that is tried: its command line, the words that this may name, the address of
     vpcd, and the seconds for a job. `before` and `after` are commands around each run. With
-    `has_home` each run has a HOME of its own."""
+    `has_home` each run has a HOME of its own. With `has_marks` it reads its line as a tty that
+    marks wrong parity. If it is no program, there is a `hand`."""
 
     words: list[str]
     names: Mapping[str, str]
@@ -42,11 +45,13 @@ class Terminal:
     before: Sequence[str] = ()
     after: Sequence[str] = ()
     has_home: bool = False
+    has_marks: bool = False
+    hand: Optional[Hand] = None
 
     @property
     def is_line(self) -> bool:
         """Whether it has a serial line, and not a reader."""
-        return any("{tty}" in it for it in self.words)
+        return bool(self.hand) or any("{tty}" in it for it in self.words)
 
 
 class Job(ABC):
@@ -130,19 +135,22 @@ class Room:
 class Service(threading.Thread):
     """Serves a card, at a line or in a reader, until the run ends."""
 
-    def __init__(self, run: Run, vpcd: str) -> None:
+    def __init__(self, run: Run, terminal: Terminal) -> None:
         super().__init__(daemon=True)
-        self.card, self.vpcd = run, vpcd
-        self.line = connected(vpcd) if vpcd else None
+        self.card, self.terminal = run, terminal
+        self.line = None if terminal.is_line else connected(terminal.vpcd)
         self.ready = SimpleQueue[Union[str, Exception]]()
         self.error: Optional[Exception] = None
 
     def run(self) -> None:
         try:
-            if self.line:
+            if hand := self.terminal.hand:
+                self.ready.put(hand.path)
+                serve_tty(self.card, hand.path, hand.baud, hand.signal)
+            elif self.line:
                 talk_vpcd(self.card, self.line, self.ready.put)
             else:
-                serve_pty(self.card, True, self.ready.put)
+                serve_pty(self.card, True, self.ready.put, has_marks=self.terminal.has_marks)
         except Exception as why:  # of the card, not of the terminal
             self.error = why
             self.ready.put(why)
@@ -154,7 +162,7 @@ class Service(threading.Thread):
         try:
             name = self.ready.get(timeout=AWAIT_READER)
         except Empty:
-            raise OSError(f"the reader at {self.vpcd} does not see the card") from None
+            raise OSError(f"the reader at {self.terminal.vpcd} does not see the card") from None
         if isinstance(name, Exception):
             raise name
         return name
@@ -189,9 +197,9 @@ def around(room: Room, terminal: Terminal) -> Iterator[None]:
 
 
 @contextlib.contextmanager
-def served(run: Run, vpcd: str) -> Iterator[str]:
+def served(run: Run, terminal: Terminal) -> Iterator[str]:
     """A card while it is served. Returns the name of its line. Raises what its application does."""
-    service = Service(run, vpcd)
+    service = Service(run, terminal)
     try:
         yield service.begun()
     finally:
@@ -205,11 +213,14 @@ def tried(job: Job, trial: Trial, terminal: Terminal) -> tuple[Run, str]:
     the card, which is closed, and the output. Raises `OSError`, and `Mistake`."""
     with job.run(trial) as run, Room(terminal) as room, around(room, terminal):
         begun = time.monotonic()
-        with served(run, "" if terminal.is_line else terminal.vpcd) as tty:
+        with served(run, terminal) as tty:
             room.names["tty"] = tty
-            status, output = room.ended(terminal.words, terminal.limit)
+            if terminal.hand:
+                status, text = asked(trial)
+            else:
+                status, output = room.ended(terminal.words, terminal.limit)
+                text = room.plain(as_text(output))
         trial.seconds = round(time.monotonic() - begun, 1)
-        text = room.plain(as_text(output))
         run.judge(status, text)
     trial.said = last_line(text)
     return run, text

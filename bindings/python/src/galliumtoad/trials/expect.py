@@ -4,7 +4,7 @@ import re
 from pathlib import Path
 from typing import Iterable
 
-from ..faults import Mistake, mistakes
+from ..mistakes import Mistake, mistakes
 from .trial import BAD, MAY_PASS, Trial
 
 LINE = re.compile(r"at (command [1-9]\d* .+?): *(.+)")

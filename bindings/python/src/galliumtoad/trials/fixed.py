@@ -7,7 +7,9 @@ from pathlib import Path
 from typing import Callable, Optional
 
 from .. import Card, Error, objects
-from ..faults import GET_RESPONSE, T1, Mistake
+from ..faults import ECHO, GET_RESPONSE, MARKS, SIGNAL, T1
+from ..mistakes import Mistake
+from . import lines
 from .engine import Job, Terminal, tried
 from .run import Run, counted
 from .trial import PRINTS, Trial
@@ -37,7 +39,8 @@ class FixedRun(Run):
     def __init__(self, trial: Trial, protocol: int) -> None:
         self.table = Card({AID: {}, OTHER: {}})
         self.brought = b""
-        super().__init__(trial, self.table, ATRS[protocol], SELECT)
+        atr = bytes.fromhex(trial.atr) or ATRS[protocol]
+        super().__init__(trial, self.table, atr, SELECT)
 
     def reset(self) -> None:
         """Resets the card, which then selects another application by itself, as many cards do."""
@@ -81,6 +84,11 @@ class FixedJob(Job):
 
     def __init__(self, is_line: bool, protocol: int, only: str = "") -> None:
         self.is_line, self.protocol, self.only = is_line, protocol, only
+        self.has_echo = True
+
+    def listed(self) -> list[Trial]:
+        """All its trials."""
+        return trials()
 
     def begin(self, terminal: Terminal) -> Trial:
         clause = "A terminal that fails without a fault is not tried."
@@ -98,13 +106,31 @@ class FixedJob(Job):
         """Whether the faults of a trial can happen where the terminal is."""
         if not trial.places:
             return True
+        if ECHO in trial.places and not self.has_echo:
+            return False
         return self.is_line and (T1 in trial.places) == bool(self.protocol)
 
     def trials(self) -> list[Trial]:
-        found = [it for it in trials() if self.only in it.name and self.can_strike(it)]
+        found = [it for it in self.listed() if self.only in it.name and self.can_strike(it)]
         if not found:
             raise Mistake(f"no trial that can happen there has {self.only!r} in its name")
         return found
 
     def run(self, trial: Trial) -> FixedRun:
         return FixedRun(trial, self.protocol)
+
+
+class LineJob(FixedJob):
+    """The same job with the trials of a line. Each has its own answer to reset."""
+
+    def __init__(self, protocol: int, only: str, slack: float, has_marks: bool) -> None:
+        super().__init__(True, protocol, only)
+        self.slack, self.has_marks = slack, has_marks
+
+    def listed(self) -> list[Trial]:
+        return lines.trials(self.slack)
+
+    def can_strike(self, trial: Trial) -> bool:
+        if SIGNAL in [it.kind for it in trial.read()] and not self.has_echo:
+            return False
+        return self.has_marks or MARKS not in trial.places

@@ -9,12 +9,12 @@ import shutil
 from pathlib import Path
 from typing import Any, Iterable
 
-from ..faults import Mistake, mistakes
+from ..mistakes import Mistake, mistakes
 from .trial import Trial
 
 # What a run finds. The verdict follows from it.
 FOUND = ("status", "seconds", "happened", "said", "has_struck", "is_true", "is_changed", "is_twice",
-         "dialogue")
+         "dialogue", "measured")
 
 
 def sums(words: Iterable[str]) -> dict[str, str]:

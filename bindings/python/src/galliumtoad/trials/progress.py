@@ -32,4 +32,5 @@ class Progress:
         self.told = now
         left = (now - self.begun) / self.done * (self.total - self.done)
         minutes = max(round(left / MINUTE), 1)
-        self.tell(f"{self.done} of {self.total} trials, {minutes} minute{'s' * (minutes > 1)} left")
+        unit = "minutes" if minutes > 1 else "minute"
+        self.tell(f"{self.done} of {self.total} trials, {minutes} {unit} left")

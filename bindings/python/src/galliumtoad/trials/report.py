@@ -10,17 +10,28 @@ from xml.etree import ElementTree
 
 from ..pages import begin, table
 from .dialogue import FAULT
+from .measured import LEGEND
 from .trial import VERDICTS, Trial
 
 HEAD = ["Trial", "Fault", "Verdict", "What happened", "What a good terminal does", "Clause"]
 STAR = "* the fault can't strike this terminal, as the list says, so it does not count"
 
 
+def verdict(it: Trial) -> str:
+    """The verdict, with a star if it does not count."""
+    return f"{it.verdict}*" if it.is_missed else it.verdict
+
+
 def as_text(it: Trial) -> str:
     """The lines of a trial."""
-    return (f"{it.verdict + '*' * it.is_missed:7}  {it.name}\n"
+    return (f"{verdict(it):7}  {it.name}\n"
             f"         expected: {it.expected}\n"
-            f"         happened: {it.ending}\n         clause: {it.clause}")
+            f"         happened: {it.ending}\n{measured(it)}         clause: {it.clause}")
+
+
+def measured(it: Trial) -> str:
+    """The line of what was measured, if something was."""
+    return f"         measured: {it.measured}\n" if it.measured else ""
 
 
 def counts(results: Iterable[Trial]) -> str:
@@ -45,13 +56,16 @@ def summary(results: list[Trial]) -> str:
     lines.append(counts(results))
     if any(it.is_missed for it in results):
         lines.append(STAR)
+    if any(it.measured for it in results):
+        lines.append(LEGEND)
     return "\n".join(lines)
 
 
 def rows(results: Iterable[Trial]) -> str:
     """The table of a page."""
     found = [(it.verdict if it.is_bad else "",
-              [it.name, it.faults, it.verdict + "*" * it.is_missed, it.ending, it.expected,
+              [it.name, f"{it.atr} {it.faults}".strip(), verdict(it),
+               f"{it.ending}; {it.measured}" if it.measured else it.ending, it.expected,
                it.clause]) for it in results]
     return table(HEAD, found, has_ends=False)
 
@@ -71,7 +85,8 @@ def as_html(results: list[Trial]) -> str:
     for line, trials in groups:
         parts += [f"<h2>{html.escape(line)}</h2>\n", rows(trials), "\n"]
         parts += [dialogue(it) for it in trials if it.dialogue]
-    return "".join([*parts, f"<p>{STAR}</html>\n"])
+    notes = [STAR, LEGEND] if any(it.measured for it in results) else [STAR]
+    return "".join([*parts, *(f"<p>{it}" for it in notes), "</html>\n"])
 
 
 def as_json(results: list[Trial]) -> str:

@@ -5,14 +5,17 @@ from collections import Counter
 from typing import Iterable, Optional, Union
 
 from .. import Card, OwnCard
-from ..faults import Faults
+from ..faults import DEFAULT_BAUD, Faults
 from ..simulate import Simulator
+from .measured import words
 from .trial import Trial
 
 RESET = b""  # in place of a command
 SELECT = b"\xA4"
 # INS of commands that only read: GET CHALLENGE, SEARCH, READ, GET RESPONSE, GET DATA.
 READS = bytes.fromhex("84 A0A1A2 B0B1B2B3 C0 CACB")
+# GENERATE ASYMMETRIC KEY PAIR only reads the public key of a pair if this bit of P1 is set.
+GENERATE_KEYS, OF_KEY_THERE = 0x47, 1
 # The same of CLA whose other INS may mean anything: GET DATA and STATUS of GlobalPlatform, EMV and
 # a UICC; SEEK, READ, GET RESPONSE and STATUS of a SIM.
 PROPRIETARY = 0x80
@@ -24,8 +27,12 @@ def only_reads(command: bytes) -> bool:
 
     >>> only_reads(bytes.fromhex("00B2010C00")), only_reads(bytes.fromhex("80B2010C00"))
     (True, False)
+    >>> only_reads(bytes.fromhex("00478100")), only_reads(bytes.fromhex("00478000"))
+    (True, False)
     """
     cla, ins = command[0], command[1]
+    if ins == GENERATE_KEYS and command[2] & OF_KEY_THERE:
+        return True
     return ins in (READS if cla < PROPRIETARY else OTHER_READS.get(cla, b""))
 
 
@@ -63,7 +70,13 @@ class Run(Simulator):
         self.commands = list[bytes]()
         super().__init__(card, atr, Faults(trial.read(), since=since))
         self.carried_out = self.commands.append
-        self.faults.tell = self.struck.append
+        self.faults.tell = self.strike
+        self.watch.counts = not trial.faults
+
+    def strike(self, said: str) -> None:
+        """Takes the line of a fault that strikes."""
+        self.struck.append(said)
+        self.watch.counts = True
 
     def judge(self, status: Optional[int], output: str) -> tuple[str, str]:
         """Judges the trial by the terminal's exit status and output. Returns the verdict, and what
@@ -71,6 +84,8 @@ class Run(Simulator):
         it = self.trial
         it.status = status
         it.has_struck = bool(self.struck)
+        if it.atr:  # a trial of a line
+            it.measured = words(self.watch, DEFAULT_BAUD)
         end = "no end" if status is None else f"exit status {status}"
         it.happened = f"{end}; {self.see(output)}"
         it.verdict = it.judged()

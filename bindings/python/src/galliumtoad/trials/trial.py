@@ -23,9 +23,9 @@ DOES = {
 @dataclass
 class Trial:
     """A fault of a list: its lines, what a good terminal does, and the clause. Some terminals
-    `may_miss` it. A team may have `accepted` verdicts of its own. A trial of any job has the number
-    and the title of its command. The rest is what a terminal made of it, `unmet` if the fault did
-    not strike."""
+    `may_miss` it. Its card may have an answer to reset of its own. A team may have `accepted`
+    verdicts of its own. A trial of any job has the number and the title of its command. The rest is
+    what a terminal made of it, `unmet` if the fault did not strike."""
 
     name: str
     faults: str
@@ -34,6 +34,7 @@ class Trial:
     may_miss: bool = False
     command: int = 0
     title: str = ""
+    atr: str = ""
     accepted: list[str] = field(default_factory=list)
     verdict: str = "unmet"
     status: Optional[int] = None
@@ -45,6 +46,7 @@ class Trial:
     is_changed: bool = False  # whether the fault changed what the terminal prints rightly
     is_twice: bool = False  # whether the card carried out a command more often than it should
     dialogue: str = ""
+    measured: str = ""  # at a line
 
     def read(self) -> list[Fault]:
         """Its faults. Raises `Mistake`."""

@@ -1,168 +1,22 @@
-"""Cards for `galliumtoad.simulate`: of a table, of an application, of a program, of a capture."""
+"""A card that answers as the one in a capture."""
 
-import atexit
-import contextlib
 import copy
 import json
-import os
-import pkgutil
 import re
-import select
-import shlex
-import shutil
 import sys
-import time
-from binascii import unhexlify
 from collections import Counter, defaultdict
-from pathlib import Path
-from subprocess import PIPE, Popen, run
-from typing import Any, Callable, Optional, Sequence
+from typing import Any, Callable, Optional
 
-from . import Application, Card, Command, Error
-from .faults import Mistake, mistakes
+from .. import Application, Command
+from ..mistakes import Mistake, mistakes
+from .captures import explained
+from .programs import RESPONSE
 
-LEAST_ATR = b"\x3B\x00"
-PATIENCE, LOOKS_EVERY = 10.0, 0.01  # seconds for a line of a program, and between looks at a line
-# A status of an application. What a program answers to a header, and to a command: data if any, SW.
-STATUS, BYTE, BYTES = "(?:9[0-9A-F]|6[2-9ABD-F])[0-9A-F]{2}", "[0-9A-F]{2}", "(?:[0-9A-F]{2})*"
-WAY, RESPONSE = "(to|from)-card", f"(?:((?:[0-9A-F]{{2}}){{1,4096}}) )?({STATUS})"
+BYTE, BYTES = "[0-9A-F]{2}", "(?:[0-9A-F]{2})*"
 CARD_ATR = re.compile("Card ATR: ?((?: ?[0-9A-F]{2})+)")  # as pcscd logs it
 MOST_RECEIVED = 2 * (4096 - 256)  # digits of a response
 PARTS = {**dict.fromkeys(("cla", "ins", "p1", "p2"), BYTE), "sent": BYTES, "received": BYTES,
          "line": "[0-9]+", "status": f"(?:9[0-9A-F]|6[1-9A-F]){BYTE}"}  # of a TPDU
-
-
-def read_table(path: str) -> tuple[Card, bytes]:
-    """Reads a card from a file. Returns it and its answer to reset. Raises `Mistake`."""
-    tables, locked, atr = dict[bytes, dict[int, bytes]](), set[tuple[bytes, int]](), b""
-    lines = mistakes(path)(Path(path).read_bytes)().decode("latin-1").split("\n")
-    for line, text in enumerate(lines, 1):
-        plain = "" if text[:1] == "#" else text.removesuffix("\r")
-        kind, *given = [*filter(None, plain.split(" "))] or [""]
-        with mistakes(f"{path}: line {line}", ValueError, Error):
-            data = [unhexlify("" if it == "-" else it) for it in given]
-            if (kind, len(data)) == ("app", 1) and data[0] not in tables:
-                tables[data[0]] = {}
-            elif (kind, len(data)) == ("atr", 1) and data[0] and not atr:
-                [atr] = data
-            elif kind in ("object", "locked") and len(data) == 2 and data[0][:1] > b"\0" and tables:
-                aid, tag = [*tables][-1], int.from_bytes(data[0], "big")
-                tables[aid][tag] = data[1]
-                (locked.add if kind == "locked" else locked.discard)((aid, tag))
-            elif kind:
-                raise ValueError("not a line of a table")
-            Card(tables, locked)  # refuses what this line adds
-    return Card(tables, locked), atr or LEAST_ATR
-
-
-def status_of(digits: str) -> int:
-    """Reads a status that an application may have. Raises `ValueError`."""
-    return int(digits if re.fullmatch(STATUS, digits, re.I) else "", 16)
-
-
-def application(name: str) -> Application:
-    """Makes an object of MODULE:CLASS. Raises `Mistake`, also later, for its errors and results."""
-    if not re.fullmatch(".+:.+", name):
-        raise Mistake(f"{name} is not MODULE:CLASS")
-    if sys.path[:1] != [""]:
-        sys.path.insert(0, "")  # the folder of the program's user
-    with mistakes(name):
-        made = pkgutil.resolve_name(name)()
-    if not isinstance(made, Application):
-        raise Mistake(f"{name} is no Application")
-    for it in ("takes_data", "carry_out", "settle", "reset"):
-        setattr(made, it, mistakes(f"{name}.{it}", OSError, Error)(getattr(made, it)))
-    def carry_out(command: Command, own: Any = made.carry_out) -> tuple[int, bytes]:
-        given = own(command)
-        with contextlib.suppress(TypeError, ValueError):
-            status, data = given
-            if len(kept := bytes(memoryview(data))) <= 4096:
-                return status_of(f"{status:04X}"), kept
-        raise Mistake(f"{name}.carry_out returned {given!r:.100}, not a status and up to 4096 bytes"
-                      " of data")
-    setattr(made, "carry_out", carry_out)
-    return made
-
-
-def awaits(fd: int, until: float, ends: Callable[[], bool] = lambda: False) -> bool:
-    """Whether something can be read before this time. Raises `OSError` if the line `ends`."""
-    while not ends():
-        if time.monotonic() > until:
-            return False
-        if select.select([fd], [], [], LOOKS_EVERY)[0]:
-            return True
-    raise OSError("it has ended")
-
-
-def next_byte(fd: int, until: float, ends: Callable[[], bool] = lambda: False) -> bytes:
-    """Reads a byte, or none if none comes until this time. Raises `OSError` if the line ends."""
-    if not awaits(fd, until, ends):
-        return b""
-    if byte := os.read(fd, 1):
-        return byte
-    raise OSError("it has ended")
-
-
-class Program(Application):
-    """An application in a program, which gets a line and answers with one. A program that is
-    silent, ends or answers anything else is a `Mistake` with the line.
-
-    >>> Program("sh -c 'read line; echo to-card; read line'").takes_data(bytes(4))
-    True"""
-    fault: Optional[Mistake] = None  # the first one
-
-    def __init__(self, command: str) -> None:
-        with mistakes(command):
-            self.program: Any = Popen(shlex.split(command), 0, stdin=PIPE, stdout=PIPE)
-        atexit.register(self.program.kill)
-
-    def takes_data(self, header: bytes) -> bool:
-        return self.ask(f"header {header.hex().upper()}", WAY)[0] == "to"
-
-    def carry_out(self, command: Command) -> tuple[int, bytes]:
-        line = f"command {(command.header + command.data).hex().upper()} {command.le or ''}"
-        data, status = self.ask(line.rstrip(), RESPONSE)
-        return int(status, 16), bytes.fromhex(data or "")
-
-    def settle(self) -> None:
-        self.ask("settled")
-
-    def reset(self) -> None:
-        self.ask("reset")
-
-    def ask(self, line: str, form: str = "") -> Sequence[str]:
-        """Sends a line. Returns the parts of its answer, which has this form, if it has one."""
-        out, said, until = self.program.stdout, b"", time.monotonic() + PATIENCE
-        try:
-            if select.select([out], [], [], 0)[0]:
-                said = out.read(100)
-                raise OSError(f"it had said {said!r}" if said else "it has ended")
-            self.program.stdin.write(f"{line}\n".encode())
-            while form and said[-1:] != b"\n":
-                if not (byte := next_byte(out.fileno(), until)):
-                    raise OSError(f"it said {said[:100]!r}, and no more in {PATIENCE:.0f} s")
-                said += byte
-            if found := re.fullmatch(form, said.decode("ascii", "replace").strip(), re.I):
-                return found.groups()
-            raise OSError(f"it said {said!r}")
-        except OSError as why:
-            self.fault = self.fault or Mistake(f"the program at the line '{line}': {why}")
-            raise self.fault from None
-
-
-def explained(path: str) -> list[bytes]:
-    """The lines of JSON for a capture, or those in a file. Raises `Mistake`."""
-    with mistakes(path):
-        text = Path(path).read_bytes().removeprefix(b"\xEF\xBB\xBF")
-        if not text.startswith(b"{"):
-            if not (name := shutil.which("trace_explain")):
-                raise ValueError("trace_explain, which reads captures, is not on the PATH. It is in"
-                                 " the repository's bindings/bin and Debian package galliumtoad")
-            done = run([name, "--json", "--commands"], input=text, capture_output=True)
-            if done.returncode:
-                raise ValueError(done.stderr.decode("utf-8", "replace").strip())
-            text = done.stdout
-        return text.splitlines()
 
 
 class Session:
@@ -284,7 +138,9 @@ class Replay(Application):
             raise Mistake(f"{self.path}: {has}, not {sent}")
 
     def reset(self) -> None:
-        self.begin((self.place + bool(self.count)) % len(self.sessions))
+        if self.count:
+            self.place += 1
+        self.begin(self.place % len(self.sessions))
 
     def instead(self, command: bytes) -> Optional[bytes]:
         """Answers in place of the card, or returns None. It answers a GET RESPONSE of the capture,

@@ -1,0 +1,65 @@
+"""A card of a program in any language, which gets lines and answers with lines."""
+
+import atexit
+import re
+import select
+import shlex
+import time
+from subprocess import PIPE, Popen
+from typing import Any, Optional, Sequence
+
+from .. import Application, Command
+from ..mistakes import Mistake, mistakes
+from ..waits import next_byte
+from .applications import STATUS
+
+PATIENCE = 10.0  # seconds for a line of a program
+# What a program answers to a header, and to a command: data if any, and SW.
+WAY, RESPONSE = "(to|from)-card", f"(?:((?:[0-9A-F]{{2}}){{1,4096}}) )?({STATUS})"
+
+
+class Program(Application):
+    """An application in a program, which gets a line and answers with one. A program that is
+    silent, ends or answers anything else is a `Mistake` with the line.
+
+    >>> Program("sh -c 'read line; echo to-card; read line'").takes_data(bytes(4))
+    True"""
+    fault: Optional[Mistake] = None  # the first one
+
+    def __init__(self, command: str) -> None:
+        with mistakes(command):
+            self.program: Any = Popen(shlex.split(command), 0, stdin=PIPE, stdout=PIPE)
+        atexit.register(self.program.kill)
+
+    def takes_data(self, header: bytes) -> bool:
+        return self.ask(f"header {header.hex().upper()}", WAY)[0] == "to"
+
+    def carry_out(self, command: Command) -> tuple[int, bytes]:
+        line = f"command {(command.header + command.data).hex().upper()} {command.le or ''}"
+        data, status = self.ask(line.rstrip(), RESPONSE)
+        return int(status, 16), bytes.fromhex(data or "")
+
+    def settle(self) -> None:
+        self.ask("settled")
+
+    def reset(self) -> None:
+        self.ask("reset")
+
+    def ask(self, line: str, form: str = "") -> Sequence[str]:
+        """Sends a line. Returns the parts of its answer, which has this form, if it has one."""
+        out, said, until = self.program.stdout, b"", time.monotonic() + PATIENCE
+        try:
+            if select.select([out], [], [], 0)[0]:
+                said = out.read(100)
+                raise OSError(f"it had said {said!r}" if said else "it has ended")
+            self.program.stdin.write(f"{line}\n".encode())
+            while form and said[-1:] != b"\n":
+                if not (byte := next_byte(out.fileno(), until)):
+                    raise OSError(f"it said {said[:100]!r}, and no more in {PATIENCE:.0f} s")
+                said += byte
+            if found := re.fullmatch(form, said.decode("ascii", "replace").strip(), re.I):
+                return found.groups()
+            raise OSError(f"it said {said!r}")
+        except OSError as why:
+            self.fault = self.fault or Mistake(f"the program at the line '{line}': {why}")
+            raise self.fault from None

@@ -1,0 +1,4 @@
+"""Runs the program."""
+from .program import main
+
+raise SystemExit(main())

@@ -4,11 +4,16 @@ real fault, and the next program gets a card that was reset."""
 import queue
 from concurrent.futures import ThreadPoolExecutor
 
+from programs_cases import STATUS, Gpg, contains, has
 from world import SELECT, SELECTED, Card, Pcscd, Room, Wrong, await_that, run, same
 
 OBJECT = "51080102030405060708"
 SCRIPT = [f"select {SELECT[10:]}", f"put 51 {OBJECT[4:]}", "get 51"]
 RIGHT = [f"= 9000 {SELECTED}", "= 9000", f"= 9000 {OBJECT}"]
+# What a program prints first until pcscd has seen a new card, or a tty that is back; or while it
+# resets the card of a program that was killed.
+NOT_YET = (["no card in the reader"], ["the reader is gone"],
+           ["line 1: the card talks neither T=0 nor T=1"])
 # the second has the shortest waiting times, so that lost blocks do not take long
 ATRS = {0: "3B00", 1: "3B8081210323"}
 UNKNOWN = "the card may have carried out the command"
@@ -56,7 +61,7 @@ def session(name, script):
     def ends():
         status, said = run(["gt_pcsc", "-r", name, "-f", "-"], "".join(f"{it}\n" for it in script))
         lines = [it for it in said.splitlines() if it != "waiting for another program"]
-        return lines[:1] == ["no card in the reader"] or (status, lines)
+        return lines[:1] in NOT_YET or (status, lines)
     return await_that("a card", lambda: (it := ends()) is not True and it)
 
 
@@ -124,7 +129,46 @@ class Desk:
         same(protocol == 1 and broken, 0, "sessions broken at T=1:")
 
 
+class Statuses:
+    """GnuPG's `gpg --card-status` at a card of the OpenPGP kind, on a line with many faults."""
+
+    def __init__(self, room, protocol):
+        self.card = Card(room, "line", ATRS[protocol], True, STORMS[protocol][1],
+                         own="openpgp:OpenPgp")
+        self.pcscd = Pcscd(room, [("Gpg", f"{self.card.tty}:slack=500")])
+        name, = self.pcscd.await_readers(1)
+        self.gpg = Gpg(room, name)
+
+    def __call__(self):
+        """Whether it ends well. Then each line about the card is right."""
+        status, said = self.gpg("--card-status", "--with-colons")
+        if status:
+            return False
+        contains(said, STATUS)
+        contains(said, ["pinretry:3:0:3:", "sigcount:0:"])
+        return True
+
+
+def statuses(protocol):
+    """GnuPG never shows a wrong status. T=1 mends each fault."""
+    with Room() as room:
+        status = Statuses(room, protocol)
+        found = [status() for _ in range(6)]
+        same(status.card.struck(), True, "a fault has struck:")
+        if protocol:
+            same(found, [True] * 6)
+        elif not all(found):
+            await_that("a line in the log", lambda: f"{status.card.tty}: " in status.pcscd.said())
+        status.pcscd.end()
+
+
 def group(case):
+    if has("gpg"):
+        for protocol in (0, 1):
+            case(f"GnuPG with many faults at T={protocol}",
+                 lambda protocol=protocol: statuses(protocol))
+    else:
+        case.skip("GnuPG with many faults", "gpg")
     with Room() as room:
         links = [room.path / f"line{at}" for at in range(4)]
         pcscd = Pcscd(room, [

@@ -1,9 +1,11 @@
 """The functions that pcscd calls, called here: their codes, tags, rooms and numbers of readers."""
 
 import ctypes
+import hashlib
 import subprocess
 import time
 
+from long_card import LongCard, pattern
 from world import BUILD, INSTALLED, SELECT, SELECTED, Card, Room, Wrong, await_that, same
 
 SUCCESS, TAG, PTS_FAILURE, NOT_SUPPORTED_CODE, PROTOCOL, POWER = 0, 600, 605, 606, 607, 608
@@ -11,6 +13,8 @@ COMMUNICATION, NOT_SUPPORTED, PRESENT, ABSENT, NO_DEVICE, NO_ROOM = 612, 614, 61
 UP, DOWN, RESET = 500, 501, 502
 T0, T1 = 1, 2  # as SetProtocolParameters has them
 FEATURES = 0x42000000 + 3400
+# the most data of a command, with its lowest byte first (PC/SC, part 10, 2.6.14)
+SHORT, LONG = "0A0400000000", "0A0400000100"
 LUN = 3 << 16
 # The objects with data that may be written; without the sections that are fixed at the start.
 KEPT = {"places", "nothing", "wipe"}
@@ -59,12 +63,18 @@ class Handler:
             ctypes.byref(length), ctypes.byref(Header()))
         return code, answer.raw[: length.value].hex().upper()
 
-    def control(self, lun, number):
-        back, length = ctypes.create_string_buffer(40), ctypes.c_ulong(7)
+    def control(self, lun, number, room=40):
+        back, length = ctypes.create_string_buffer(41), ctypes.c_ulong(7)
         code = self.its.IFDHControl(ctypes.c_ulong(lun), ctypes.c_ulong(number), b"",
-                                    ctypes.c_ulong(0), back, ctypes.c_ulong(40),
+                                    ctypes.c_ulong(0), back, ctypes.c_ulong(room),
                                     ctypes.byref(length))
-        return code, length.value
+        return code, back.raw[: length.value].hex().upper()
+
+    def properties(self, lun):
+        """The list of properties, by the number in the list of features."""
+        code, features = self.control(lun, FEATURES)
+        same((code, features[:4], len(features)), (SUCCESS, "1204", 12), "features:")
+        return self.control(lun, int(features[4:], 16))
 
 
 def with_card(test, atr="3B00", settings="slack=2000", faults=()):
@@ -100,8 +110,43 @@ def tags(handler, _):
     same(handler.get(LUN, 0x0FAE, 0), (NO_ROOM, None))
     same(handler.its.IFDHSetCapabilities(ctypes.c_ulong(LUN), ctypes.c_ulong(0x0FAE),
                                          ctypes.c_ulong(0), b""), NOT_SUPPORTED)
-    same(handler.control(LUN, FEATURES), (SUCCESS, 0))
-    same(handler.control(LUN, 1), (NOT_SUPPORTED_CODE, 0))
+    same(handler.control(LUN, 1), (NOT_SUPPORTED_CODE, ""))
+    same(handler.control(LUN, FEATURES, 5), (NO_ROOM, ""))
+    same(handler.control(LUN + (1 << 16), FEATURES), (NO_DEVICE, ""))
+
+
+def properties(handler, _):
+    """Long commands reach the card at T=1 alone."""
+    same(handler.properties(LUN), (SUCCESS, LONG))
+    for protocol, most in ((T0, SHORT), (T1, LONG)):
+        same(handler.power(LUN, UP)[0], SUCCESS)
+        same(handler.properties(LUN), (SUCCESS, LONG))
+        same(handler.protocol(LUN, protocol), SUCCESS)
+        same(handler.properties(LUN), (SUCCESS, most))
+    same(handler.control(LUN, 0x42000000 + 3401, 5), (NO_ROOM, ""))
+    same(handler.power(LUN, DOWN)[0], SUCCESS)
+    same(handler.properties(LUN), (SUCCESS, LONG))
+
+
+def extended():
+    """Extended commands and responses at T=1, up to the longest."""
+    card, handler = LongCard(), Handler()
+    try:
+        same(handler.create(LUN, f"{card.tty}:echo=no,slack=2000,baud=1000000"), SUCCESS)
+        same(handler.power(LUN, UP)[0], SUCCESS)
+        same(handler.protocol(LUN, T1), SUCCESS)
+        for size in (1, 254, 256, 257, 4096, 65535, 65536):
+            same(handler.transmit(LUN, 1, f"00B0000000{size & 0xFFFF:04X}"),
+                 (SUCCESS, f"{pattern(size).hex()}9000".upper()), f"{size} bytes")
+        for size in (1, 255, 256, 4096, 65535):
+            data = pattern(size)
+            same(handler.transmit(LUN, 1, f"00D6000000{size:04X}{data.hex()}0000"),
+                 (SUCCESS, f"{hashlib.sha256(data).hexdigest()}9000".upper()), f"{size} bytes")
+        same(handler.transmit(LUN, 1, "00B00000000000", 65537), (NO_ROOM, ""))
+        same(handler.transmit(LUN, 1, "00B00000000001", 3), (SUCCESS, "009000"))
+    finally:
+        handler.close(LUN)
+        card.end()
 
 
 def power(handler, card):
@@ -199,8 +244,11 @@ def is_lost(handler, card):
     same(handler.transmit(LUN, 0, "00CA5F2006"), (SUCCESS, "6985"), "no application is selected:")
     card.end()
     same(handler.transmit(LUN, 0, SELECT), (NO_DEVICE, ""))
-    same(handler.present(LUN), ABSENT)
+    same(handler.present(LUN), NO_DEVICE, "the reader is removed:")
     same(handler.power(LUN, UP), (POWER, ""))
+    # a tty that was never there is an empty slot
+    same((handler.create(0, "none:"), handler.present(0), handler.close(0)),
+         (SUCCESS, ABSENT, SUCCESS))
 
 
 def no_state():
@@ -260,6 +308,8 @@ def group(case):
     case("settings", settings)
     case("numbers of readers", lambda: with_card(numbers))
     case("tags, features", lambda: with_card(tags))
+    case("properties", lambda: with_card(properties, "3B9011800100"))
+    case("extended commands", extended)
     case("power", lambda: with_card(power))
     # an answer to reset of three bytes might be taken for one to the first command
     case("TPDUs", lambda: with_card(tpdus, "3B1011"))

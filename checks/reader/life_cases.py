@@ -11,10 +11,49 @@ import time
 from concurrent.futures import ThreadPoolExecutor
 
 from faults_cases import RIGHT, SCRIPT, session
+from programs_cases import Gpg, has
 from world import INSTALLED, SELECT, Card, Pcscd, Room, Wrong, await_that, run, same
 
+# Two programs. The second one has a transaction, and then resets the card.
+COMPETES = """
+import sys, threading, time
+from smartcard import scard
+def connect(share):
+    _, context = scard.SCardEstablishContext(scard.SCARD_SCOPE_USER)
+    code, card, _ = scard.SCardConnect(context, sys.argv[1], share, scard.SCARD_PROTOCOL_T0)
+    return code, card
+def select(card):
+    command = list(bytes.fromhex(sys.argv[2]))
+    code, answer = scard.SCardTransmit(card, scard.SCARD_PCI_T0, command)
+    return scard.SCardGetErrorMessage(code), bytes(answer).hex()
+def tell(code):
+    print(scard.SCardGetErrorMessage(code))
+code, first = connect(scard.SCARD_SHARE_SHARED)
+other, second = connect(scard.SCARD_SHARE_SHARED)
+tell(code)
+tell(other)
+tell(connect(scard.SCARD_SHARE_EXCLUSIVE)[0])
+scard.SCardBeginTransaction(second)
+said = []
+waits = threading.Thread(target=lambda: said.append(select(first)))
+waits.start()
+print(*select(second))
+time.sleep(1)
+print(said)
+scard.SCardEndTransaction(second, scard.SCARD_RESET_CARD)
+waits.join()
+print(*said[0])
+tell(scard.SCardReconnect(first, scard.SCARD_SHARE_SHARED, scard.SCARD_PROTOCOL_T0,
+                          scard.SCARD_LEAVE_CARD)[0])
+print(*select(first))
+"""
+COMPETED = ["Command successful."] * 2 + [
+    "Sharing violation.", "Command successful. 610b", "[]", "Card was reset. ",
+    "Command successful.", "Command successful. 610b"]
 # a secret of eight digits, as a reader's log may show it
 PIN = "3132333435363738"
+NEVER_ENDS = ("while read it; do case $it in header*) echo from-card;; command*) exec sleep 1000;;"
+              " esac; done")
 FORMS = [PIN, "31 32 33 34", "31:32:33:34", "12345678", "1234"]
 
 
@@ -90,15 +129,62 @@ def card_killed():
         program = in_the_middle(room, card, name)
         card.end()
         same(ends(program, 20), 1, "status")
+        same((room.path / "program").read_text(encoding="utf-8").splitlines(),
+             [RIGHT[0], "line 2: the reader is gone"])
         pcscd.await_log(f"{card.tty}: the line is gone")
         await_that("the log has the tty", lambda: "the tty cannot be opened: " in pcscd.said())
         same(pcscd.said().count("the tty cannot be opened: "), 1, "lines in the log:")
         again = Card(room, "tty")
         await_that("a reset of the next card", lambda: again.resets)
-        same(session(name, SCRIPT), (0, RIGHT))
+        await_that("the reader is back", lambda: session(name, SCRIPT) == (0, RIGHT))
         again.end()
         await_that("the log has it again",
                    lambda: pcscd.said().count("the tty cannot be opened: ") == 2)
+        pcscd.end()
+
+
+def await_gone(name, link, pcscd, count):
+    """Programs see that the reader is gone, and the log has had the reason this many times."""
+    await_that("the reader is gone",
+               lambda: run(["gt_pcsc", "-r", name, "get", "51"]) == (1, "the reader is gone\n"))
+    reason = f"{link}: the tty cannot be opened: "
+    same(pcscd.said().count(reason), count, "the reason in the log:")
+
+
+def is_removed():
+    """An adapter that is unplugged while no program works is a reader that is gone, again and
+    again. Another reader stays."""
+    with Room() as room:
+        other = Card(room, "other")
+        card = Card(room, "tty")
+        pcscd = Pcscd(room, [("Stays", f"{other.tty}:slack=2000"),
+                             ("Goes", f"{card.tty}:slack=2000")])
+        names = pcscd.await_readers(2)
+        for count in (1, 2, 3):
+            same(session(names[1], SCRIPT), (0, RIGHT))
+            card.end()
+            await_gone(names[1], card.tty, pcscd, count)
+            same(session(names[0], SCRIPT), (0, RIGHT))
+            card = Card(room, "tty", ["3B00", "3B800181"][count % 2])
+            await_that("the reader is back", lambda: session(names[1], SCRIPT) == (0, RIGHT))
+        pcscd.end()
+
+
+def name_vanishes():
+    """The name of the tty goes while the tty is open, as of an adapter that comes back under
+    another one. A reset finds that, and the name brings the reader back."""
+    with Room() as room:
+        card = Card(room, "tty")
+        pcscd, name = one_reader(room, card)
+        same(session(name, SCRIPT), (0, RIGHT))
+        where = card.tty.readlink()
+        card.tty.unlink()
+        await_that("the reader is gone", lambda: run(["gt_pcsc", "-r", name, "get", "51"]) == (
+            1, "the reader is gone\n"))
+        resets = card.resets
+        card.tty.symlink_to(where)
+        await_that("the reader is back", lambda: session(name, SCRIPT) == (0, RIGHT))
+        same(card.resets > resets, True, "another reset:")
         pcscd.end()
 
 
@@ -122,8 +208,6 @@ def pcscd_killed(number):
         program = in_the_middle(room, card, name)
         pcscd.end(number)
         same(ends(program, 10), 1, "status")
-        # the card sees that it was left once it has answered
-        await_that("the card's answer", lambda: not card.said().endswith("delay 4s\n"))
         resets = card.resets
         pcscd = Pcscd(room, [("Life", f"{card.tty}:slack=2000")])
         pcscd.await_readers(1)
@@ -178,6 +262,21 @@ def has_a_bound():
         pcscd.end()
 
 
+def never_ends(atr):
+    """A card that asks for more time without end ends with the patience, at T=0 and T=1."""
+    with Room() as room:
+        card = Card(room, "tty", atr, own=f"sh -c '{NEVER_ENDS}'")
+        pcscd, name = one_reader(room, card, "slack=2000,patience=2")
+        began = time.monotonic()
+        status, lines = session(name, ["send 8010000001"])
+        seconds = time.monotonic() - began
+        same(status, 1, lines)
+        pcscd.await_log(f"{card.tty}: the command takes longer than the setting 'patience'")
+        if not 2 <= seconds < 30:
+            raise Wrong(f"it ends after {seconds:.1f} s")
+        pcscd.end()
+
+
 def beside_a_slow_one():
     """A command that lasts at one reader does not hold up another."""
     with Room() as room:
@@ -207,6 +306,19 @@ def two_compete():
         pcscd.end()
 
 
+def two_see_each_other():
+    """Who wants the card for itself alone is refused, a transaction makes others wait, and they see
+    that it ended with a reset."""
+    with Room() as room:
+        card = Card(room, "tty")
+        pcscd, name = one_reader(room, card)
+        before = card.resets
+        status, said = run([sys.executable, "-c", COMPETES, name, SELECT])
+        same((status, said.splitlines()), (0, COMPETED))
+        same(card.resets > before, True, "a reset:")
+        pcscd.end()
+
+
 def no_secret(protocol):
     """No byte of a command is in a log, whatever happens to it."""
     with Room() as room:
@@ -223,17 +335,51 @@ def no_secret(protocol):
         pcscd.end()
 
 
+def no_pin_of_gpg(faults):
+    """GnuPG's PIN is in no line of pcscd's log or of its own daemon's, whatever becomes of it."""
+    with Room() as room:
+        card = Card(room, "tty", "3B800181", faults=faults, own="openpgp:OpenPgp")
+        pcscd, name = one_reader(room, card, "slack=200", ["--debug"])
+        gpg = Gpg(room, name)
+        log = gpg.path / "log"
+        (gpg.path / "scdaemon.conf").open("a").write(f"log-file {log}\nverbose\n")
+        gpg.import_key()
+        gpg.status()
+        found = [gpg.sign("64738291"), gpg.sign("123456")]
+        same(found, [2, 2] if faults else [2, 0])
+        logs = pcscd.said() + log.read_text(encoding="utf-8")
+        for pin in ("64738291", "123456"):
+            digits = pin.encode().hex(" ")
+            forms = [pin, digits, digits.replace(" ", ""), digits.replace(" ", ":")]
+            same([it for it in forms if it in logs], [], "forms in the log:")
+        same(f"{card.tty}: " in logs, bool(faults), "the log has a fault:")
+        pcscd.end()
+
+
 def group(case):
     tests = {
         "wrong settings": wrong_settings, "a card killed in the middle": card_killed,
         "an adapter plugged in later": plugged_in_later,
+        "an adapter that is unplugged": is_removed, "a name that vanishes": name_vanishes,
         "an adapter that is back at once": back_at_once,
         "pcscd killed in the middle": lambda: pcscd_killed(signal.SIGKILL),
         "pcscd ended in the middle": lambda: pcscd_killed(signal.SIGTERM),
         "a program killed in the middle": program_killed, "a tty that is held": is_held,
+        "a card that never ends, T=0": lambda: never_ends("3B00"),
+        "a card that never ends, T=1": lambda: never_ends("3B8081210323"),
         "a bound for all": has_a_bound, "a reader beside a slow one": beside_a_slow_one,
         "programs that compete": two_compete, "no secret in a log, T=0": lambda: no_secret(0),
         "no secret in a log, T=1": lambda: no_secret(1),
     }
     for title, test in tests.items():
         case(title, test)
+    if has("pyscard"):
+        case("what two programs see of each other", two_see_each_other)
+    else:
+        case.skip("what two programs see of each other", "pyscard")
+    for faults in ([], ["INS 20 once, power off"]):
+        title = f"no PIN of GnuPG in a log, {faults[:1] or 'no fault'}"
+        if has("gpg"):
+            case(title, lambda faults=faults: no_pin_of_gpg(faults))
+        else:
+            case.skip(title, "gpg")

@@ -15,6 +15,7 @@ TESTED = BUILD / "standin/libgt_serial_reader.so"
 INSTALLED = BUILD / "libgt_serial_reader.so"
 SELECT, SELECTED = "00A4040007A0000000031010", "6F098407A0000000031010"
 TABLE = ["app A0000000031010", "object 5F20 4A4F45"]
+EXAMPLES = TOP / "bindings/python/examples"
 SECONDS = int(os.environ.get("READER_SECONDS", "60"))
 
 
@@ -58,18 +59,22 @@ def end(process, number=signal.SIGKILL):
 
 
 class Card:
-    """A card of galliumtoad.simulate at a pseudo terminal, which `tty`, a link, names. `resets` are
-    those that it has heard."""
+    """A card of galliumtoad.simulate at a pseudo terminal, which `tty`, a link, names: of these
+    lines of a table, or its `own` class or program. `resets` are those that it has heard."""
 
-    def __init__(self, room, name, atr="3B00", echo=True, faults=(), words=(), lines=TABLE):
+    def __init__(self, room, name, atr="3B00", echo=True, faults=(), words=(), lines=TABLE, own=""):
         self.out, self.err = room.path / f"{name}.out", room.path / f"{name}.err"
         self.tty, files = room.path / name, [room.path / f"{name}.{it}" for it in ("tab", "faults")]
         for file, of in zip(files, (lines, faults)):
             file.write_text("".join(f"{line}\n" for line in of), encoding="utf-8")
+        card = ["--table", files[0]]
+        if own:
+            card = ["--application" if ":" in own else "--program", own]
+        card += ["--atr", atr] if atr else []
         self.process = room.start(
-            ["/usr/bin/python3", "-u", "-m", "galliumtoad.simulate", "-v", "--pty", "--atr", atr,
-             "--table", files[0], "--faults", files[1], *([] if echo else ["--no-echo"]), *words],
-            self.out, self.err)
+            ["/usr/bin/python3", "-u", "-m", "galliumtoad.simulate", "-v", "--pty",
+             *card, "--faults", files[1], *([] if echo else ["--no-echo"]), *words],
+            self.out, self.err, {"PYTHONPATH": f"{os.environ['PYTHONPATH']}:{EXAMPLES}"})
         name = await_that("a card", lambda: self.heard()[:1] or self.process.poll() is not None)
         if self.process.poll() is not None:
             raise Wrong(self.err.read_text(encoding="utf-8"))

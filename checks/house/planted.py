@@ -159,7 +159,7 @@ FAULTS = [
     ("sentence", LAMP, 7, [(LAMP, "Lights it.", f"{MOST[:80]}\n    /// {MOST[80:]} word.")]),
     ("cell", PAGE, 5, [(PAGE, "red", "x" * 301)]),
     ("size", "README.md", 1, [("README.md", None, "x" * 7301)]),
-    ("size", "README.md", 1, [("bench/README.md", None, "é" * 102_500)]),
+    ("size", "README.md", 1, [("bench/README.md", None, "é" * 110_000)]),
     ("name", TOUR, 3, [(TOUR, "Lamp::light", "Lamp::lights")]),
     ("name", TOUR, 3, [(TOUR, "src/lamp.rt", "src/lamps.rt")]),
     ("name", TOUR, 3, [(TOUR, "`lit` of", "`burns` of")]),

@@ -1,8 +1,10 @@
-/* Tests the line of bindings/c/examples/board over a clock that this program advances: what comes,
- * when, and when this end sends. Times are by ISO/IEC 7816-3, in ticks of the board. */
+/* Tests the line of bindings/c/examples/board, and its terminal at T=0, over a clock that this
+ * program advances: what comes, when, and when this end sends. Times are by ISO/IEC 7816-3, in
+ * ticks of the board. */
 #include "block.h"
 
 #include <stdio.h>
+#include <string.h>
 
 enum { MOST = 700, STEP = 50 };
 
@@ -23,11 +25,32 @@ uint64_t board_ticks(void)
     return now;
 }
 
+/* A character comes this number of ticks from now. */
+static void comes(uint64_t after, uint8_t byte, bool is_wrong)
+{
+    coming[coming_count].at = now + after;
+    coming[coming_count].byte = byte;
+    coming[coming_count++].is_wrong = is_wrong;
+}
+
+/* What the card answers once this many characters were sent, and the ticks between its bytes. */
+static struct { size_t after, n; uint8_t bytes[2]; uint64_t gap; } reply;
+
 bool board_sends(uint8_t byte)
 {
+    size_t i;
     sent_at[sent_count] = now;
     sent[sent_count++] = byte;
+    for (i = 0; sent_count == reply.after && i < reply.n; i++)
+        comes(line_etu(30) + i * reply.gap, reply.bytes[i], false);
     return true;
+}
+
+static char printed[100];
+
+void board_print(const char *text)
+{
+    strncat(printed, text, sizeof printed - strlen(printed) - 1);
 }
 
 static void look(bool is_well, int line)
@@ -38,14 +61,6 @@ static void look(bool is_well, int line)
         printf("line %d\n", line);
 }
 #define LOOK(it) look(it, __LINE__)
-
-/* A character comes this number of ticks from now. */
-static void comes(uint64_t after, uint8_t byte, bool is_wrong)
-{
-    coming[coming_count].at = now + after;
-    coming[coming_count].byte = byte;
-    coming[coming_count++].is_wrong = is_wrong;
-}
 
 /* Whether a time is this one, or a few looks at the clock later. */
 static bool is_near(uint64_t time, uint64_t wanted)
@@ -146,6 +161,33 @@ static void blocks(void)
     line_drop(cwt);
 }
 
+/* The terminal of a card that answers the header of SELECT so. Returns what it prints. */
+static const char *select_answered(size_t n, uint64_t gap)
+{
+    printed[0] = 0;
+    coming_count = come = sent_count = 0;
+    reply.after = 5;
+    reply.n = n;
+    reply.bytes[0] = reply.bytes[1] = 0xA4;
+    reply.gap = gap;
+    comes(line_etu(50), 0x3B, false);
+    comes(line_etu(62), 0x00, false);
+    board_main();
+    reply.after = 0;
+    return printed;
+}
+
+/* A terminal's turn comes 16 etu after the card's character began. What comes until then is
+ * unexpected. */
+static void turns(void)
+{
+    LOOK(strcmp(select_answered(1, 0), "select the card is silent\n") == 0);
+    LOOK(sent_count == 12 && is_near(sent_at[5], coming[2].at + line_etu(16 - 10)));
+    LOOK(strcmp(select_answered(2, line_etu(5)), "select unexpected byte\n") == 0);
+    LOOK(sent_count == 5);
+    line_drop(0);
+}
+
 int main(void)
 {
     now = BOARD_HZ;
@@ -154,6 +196,7 @@ int main(void)
     drops();
     overflows();
     blocks();
+    turns();
     printf("%u passed, %u failed\n", (unsigned)(checked - failed), (unsigned)failed);
     return failed != 0;
 }

@@ -66,10 +66,22 @@ void line_drop(uint64_t quiet)
     while (take(&byte, board_ticks() + quiet) != LINE_SILENT) {}
 }
 
+/* A guard time counts from the beginning of a character, and `last` is near its end. */
+static uint64_t end_of_guard(unsigned guard)
+{
+    return last + line_etu(guard > BARE ? guard - BARE : 0);
+}
+
+bool line_is_quiet(unsigned guard)
+{
+    const uint64_t until = end_of_guard(guard);
+    while (board_ticks() < until) {}
+    return !line_has_more();
+}
+
 void line_send(const uint8_t *bytes, size_t n, unsigned guard)
 {
-    /* a guard time counts from the beginning of a character, and `last` is near its end */
-    uint64_t from = last + line_etu(guard > BARE ? guard - BARE : 0);
+    uint64_t from = end_of_guard(guard);
     size_t i;
     for (i = 0; i < n; i++) {
         while (board_ticks() < from) {}

@@ -39,6 +39,9 @@ bool line_has_more(void);
 /* Drops what was received, and what comes until nothing comes for this many ticks. */
 void line_drop(uint64_t quiet);
 
+/* Waits until `guard` etu after the last character began. Returns whether none has come since. */
+bool line_is_quiet(unsigned guard);
+
 /* Sends characters. The first begins no earlier than `guard` etu after the last one received. */
 void line_send(const uint8_t *bytes, size_t n, unsigned guard);
 

@@ -50,7 +50,7 @@ static const char *take_answer(void)
 }
 
 /* Passes characters until the operation has ended. The terminal sends only if the card was silent
- * since it was asked. */
+ * until its turn. */
 static const char *run_t0(gt_terminal *terminal)
 {
     const uint64_t wait = line_cycles(atr.waiting_time);
@@ -61,7 +61,7 @@ static const char *run_t0(gt_terminal *terminal)
         enum line_result result;
         if (code < 0)
             return gt_text(code);
-        if ((n > 0 || code == GT_DONE) && line_has_more())
+        if ((n > 0 || code == GT_DONE) && !line_is_quiet(TURN))
             return "unexpected byte";
         line_send(line, n, TURN);
         if (code == GT_DONE)

@@ -113,6 +113,7 @@ fn behind_row(count: usize, line: &[u8]) -> Option<&[u8]>
 }
 
 /// Returns what follows these parts at the beginning of a line.
+#[inline(always)]
 pub fn begun<'a>(parts: &[Part], line: &'a [u8]) -> Option<&'a [u8]>
     ensures { elim result [ None ↦ None | Some rest ↦ Some rest.now ] ≡ begun parts.now line.now }
 {
@@ -129,6 +130,7 @@ pub fn begun<'a>(parts: &[Part], line: &'a [u8]) -> Option<&'a [u8]>
 ///
 /// - `Hex`: they are not.
 /// - `OutOfMemory`: memory ran out.
+#[inline(always)]
 pub fn marks_in(alloc: Global, parts: &[Part], left: usize, line: &[u8]) -> Result<Marks, LineFault>
     ensures says { IfOk result (λ m. marks_in parts.now left line.now ≡ Some (marked_by m)) }
     ensures refused { IfErr result (λ why. IsBadField why (marks_in parts.now left line.now)) }

@@ -13,7 +13,7 @@ RIGHT = [f"= 9000 {SELECTED}", "= 9000", f"= 9000 {OBJECT}"]
 # What a program prints first until pcscd has seen a new card, or a tty that is back; or while it
 # resets the card of a program that was killed.
 NOT_YET = (["no card in the reader"], ["the reader is gone"],
-           ["line 1: the card talks neither T=0 nor T=1"])
+           ["line 1: the card was reset by another program"])
 # the second has the shortest waiting times, so that lost blocks do not take long
 ATRS = {0: "3B00", 1: "3B8081210323"}
 UNKNOWN = "the card may have carried out the command"

@@ -1,12 +1,18 @@
+#define _POSIX_C_SOURCE 200112L
+
 #include "reader.h"
 #include "contactless.h"
 #include "program.h"
 #include "waiting.h"
 
+#include <poll.h>
 #include <string.h>
 
 /* how many times it begins a transaction, if other programs reset the card before each */
 #define BEGIN_LIMIT 100
+
+/* how many times it asks for either protocol, and the pause between, in milliseconds */
+enum { ASK_LIMIT = 10, ASK_PAUSE = 100 };
 
 /* room for the names of as many readers as a pcscd has, and a few words */
 #define NAMES_ROOM 2400
@@ -183,18 +189,36 @@ static LONG agreed(const struct reader *reader, LONG code, DWORD protocols)
     return code == SCARD_S_SUCCESS && is_other ? SCARD_E_PROTO_MISMATCH : code;
 }
 
+/* pcscd resets the card of a program that was killed, and may refuse both protocols meanwhile, as
+ * for a card that talks neither. Waits, and returns whether to ask again. */
+static bool asks_again(LONG code, DWORD protocols, int times)
+{
+    if (code != SCARD_E_PROTO_MISMATCH || protocols != EITHER || times >= ASK_LIMIT)
+        return false;
+    poll(NULL, 0, ASK_PAUSE);
+    return true;
+}
+
 static LONG connect_at(struct reader *reader, const char *name, DWORD share, DWORD protocols)
 {
-    const LONG code = SCardConnect(reader->context, name, share, protocols, &reader->card,
-                                   &reader->protocol);
+    LONG code;
+    int times = 0;
+    do
+        code = SCardConnect(reader->context, name, share, protocols, &reader->card,
+                            &reader->protocol);
+    while (asks_again(code, protocols, ++times));
     reader->is_connected = code == SCARD_S_SUCCESS;
     return agreed(reader, code, protocols);
 }
 
 static LONG reconnect(struct reader *reader, DWORD how)
 {
-    const LONG code = SCardReconnect(reader->card, SCARD_SHARE_SHARED, reader->wanted, how,
-                                     &reader->protocol);
+    LONG code;
+    int times = 0;
+    do
+        code = SCardReconnect(reader->card, SCARD_SHARE_SHARED, reader->wanted, how,
+                              &reader->protocol);
+    while (asks_again(code, reader->wanted, ++times));
     return agreed(reader, code, reader->wanted);
 }
 
@@ -230,23 +254,31 @@ static LONG ask_status(struct reader *reader)
     return code;
 }
 
-/* Begins a transaction. Another program, which ends its own with a reset of the card, may have done
- * so since this one connected, or while it did. Then pcscd does not say so, and has forgotten the
- * protocol. Nothing was sent yet, so that is no loss. */
+/* Begins a transaction, unless one has begun. A reset while this program connected makes pcscd
+ * forget the protocol, and not say so. */
+static LONG begin(struct reader *reader)
+{
+    LONG code = reader->is_held ? SCARD_S_SUCCESS : SCardBeginTransaction(reader->card);
+    reader->is_held = code == SCARD_S_SUCCESS;
+    if (code == SCARD_S_SUCCESS)
+        code = ask_status(reader);
+    return code == SCARD_S_SUCCESS && (reader->protocol & reader->wanted) == 0
+        ? SCARD_W_RESET_CARD
+        : code;
+}
+
+/* Begins a transaction. The card may have been reset since this program connected: by one that
+ * ended its own transaction, or for one that was killed. Nothing was sent yet, so that is no
+ * loss. */
 static const char *begin_transaction(struct reader *reader)
 {
-    LONG code = SCardBeginTransaction(reader->card);
+    LONG code = begin(reader);
     int times;
     for (times = 1; code == SCARD_W_RESET_CARD && times < BEGIN_LIMIT; times++) {
         code = reconnect(reader, SCARD_LEAVE_CARD);
         if (code == SCARD_S_SUCCESS)
-            code = SCardBeginTransaction(reader->card);
+            code = begin(reader);
     }
-    reader->is_held = code == SCARD_S_SUCCESS;
-    if (code == SCARD_S_SUCCESS)
-        code = ask_status(reader);
-    if (code == SCARD_S_SUCCESS && (reader->protocol & reader->wanted) == 0)
-        code = reconnect(reader, SCARD_LEAVE_CARD);
     return fault_of(reader, code);
 }
 
@@ -304,7 +336,8 @@ const char *reader_transmit(struct reader *reader, const uint8_t *sent, size_t n
     DWORD got = READER_ROOM;
     const LONG code = SCardTransmit(reader->card, header, sent, (DWORD)n, NULL, answer, &got);
     *length = code == SCARD_S_SUCCESS && got <= READER_ROOM ? got : 0;
-    return fault_of(reader, code);
+    /* the protocol that was agreed is gone */
+    return code == SCARD_E_PROTO_MISMATCH ? text_of(SCARD_W_RESET_CARD) : fault_of(reader, code);
 }
 
 const char *reader_close(struct reader *reader)

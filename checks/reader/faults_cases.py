@@ -5,7 +5,8 @@ import queue
 from concurrent.futures import ThreadPoolExecutor
 
 from programs_cases import STATUS, Gpg, contains, has
-from world import SELECT, SELECTED, Card, Pcscd, Room, Wrong, await_that, run, same
+from world import (BRIEF, SELECT, SELECTED, TOO_LATE, Card, Pcscd, Room, Wrong, await_that, run,
+                   same)
 
 OBJECT = "51080102030405060708"
 SCRIPT = [f"select {SELECT[10:]}", f"put 51 {OBJECT[4:]}", "get 51"]
@@ -28,7 +29,7 @@ FAULTS = [
     (0, "command 3, byte 5 insert AA", "bad procedure byte"),
     (0, "command 3, mute", "the card is silent"),
     (0, "command 2, power off", "the card is silent"),
-    (0, "command 2, delay 3s", "the card is silent"),
+    (0, f"command 2, delay {TOO_LATE}", "the card is silent"),
     (1, "command 2, lose", ""),
     (1, "command 2, double", ""),
     (1, "command 3, lrc", ""),
@@ -54,6 +55,8 @@ STORMS = [
          "p 0.02, byte 2 drop", "p 0.02, byte 6 insert 00", "p 0.02, nad"]),
 ]
 STORM = 100
+# A lost block costs this time each. T=1 asks again.
+STORM_SLACK = "slack=500"
 
 
 def session(name, script):
@@ -129,13 +132,37 @@ class Desk:
         same(protocol == 1 and broken, 0, "sessions broken at T=1:")
 
 
+class Desks:
+    """Readers of one pcscd. `free` has those that no test uses, by echo and slack."""
+
+    KINDS = [(echo, slack) for echo in (True, False) for slack in (BRIEF, BRIEF, STORM_SLACK)]
+
+    def __init__(self, room):
+        links = [room.path / f"line{at}" for at in range(len(self.KINDS))]
+        self.pcscd = Pcscd(room, [
+            (f"F{at}", f"{link}:{slack},echo={'yes' if echo else 'no'}")
+            for at, (link, (echo, slack)) in enumerate(zip(links, self.KINDS))])
+        self.free = {it: queue.Queue() for it in self.KINDS}
+        names = self.pcscd.await_readers(len(links))
+        for name, link, kind in zip(names, links, self.KINDS):
+            self.free[kind].put(Desk(self.pcscd, room, name, link, kind[0]))
+
+
+def at_desk(case, title, free, test):
+    """Runs the case at the next free desk."""
+    desk = free.get()
+    case(title, lambda: test(desk))
+    free.put(desk)
+
+
 class Statuses:
     """GnuPG's `gpg --card-status` at a card of the OpenPGP kind, on a line with many faults."""
 
     def __init__(self, room, protocol):
         self.card = Card(room, "line", ATRS[protocol], True, STORMS[protocol][1],
                          own="openpgp:OpenPgp")
-        self.pcscd = Pcscd(room, [("Gpg", f"{self.card.tty}:slack=500")])
+        slack = STORM_SLACK if protocol else BRIEF
+        self.pcscd = Pcscd(room, [("Gpg", f"{self.card.tty}:{slack}")])
         name, = self.pcscd.await_readers(1)
         self.gpg = Gpg(room, name)
 
@@ -170,30 +197,15 @@ def group(case):
     else:
         case.skip("GnuPG with many faults", "gpg")
     with Room() as room:
-        links = [room.path / f"line{at}" for at in range(4)]
-        pcscd = Pcscd(room, [
-            (f"F{at}", f"{link}:slack=500,echo={'yes' if at < 2 else 'no'}")
-            for at, link in enumerate(links)])
-        names = pcscd.await_readers(4)
-        desks = [Desk(pcscd, room, name, link, at < 2)
-                 for at, (name, link) in enumerate(zip(names, links))]
+        desks = Desks(room)
         for echo in (True, False):
-            free = queue.Queue()
-            for desk in desks:
-                if desk.echo == echo:
-                    free.put(desk)
-
-            def each(of):
-                title, test = of
-                desk = free.get()
-                case(title, lambda: test(desk))
-                free.put(desk)
-            tests = [(f"{fault} at T={protocol}, echo {echo}",
+            tests = [(f"{fault} at T={protocol}, echo {echo}", desks.free[echo, BRIEF],
                       lambda desk, of=(protocol, fault, told): desk.try_fault(*of))
                      for protocol, fault, told in FAULTS + (ECHOES if echo else [])]
             tests += [(f"many faults at T={protocol}, echo {echo}",
+                       desks.free[echo, STORM_SLACK if protocol else BRIEF],
                        lambda desk, of=(protocol, faults): desk.storm(*of))
                       for protocol, faults in STORMS]
-            yield_to = ThreadPoolExecutor(2)
-            list(yield_to.map(each, tests))
-        pcscd.end()
+            with ThreadPoolExecutor(3) as pool:
+                list(pool.map(lambda of: at_desk(case, *of), tests))
+        desks.pcscd.end()

@@ -6,7 +6,8 @@ import subprocess
 import time
 
 from long_card import LongCard, pattern
-from world import BUILD, INSTALLED, SELECT, SELECTED, Card, Room, Wrong, await_that, same
+from world import (BRIEF, BUILD, INSTALLED, PATIENT, SELECT, SELECTED, Card, Room, Wrong,
+                   await_that, same)
 
 SUCCESS, TAG, PTS_FAILURE, NOT_SUPPORTED_CODE, PROTOCOL, POWER = 0, 600, 605, 606, 607, 608
 COMMUNICATION, NOT_SUPPORTED, PRESENT, ABSENT, NO_DEVICE, NO_ROOM = 612, 614, 615, 616, 617, 618
@@ -77,7 +78,7 @@ class Handler:
         return self.control(lun, int(features[4:], 16))
 
 
-def with_card(test, atr="3B00", settings="slack=2000", faults=()):
+def with_card(test, atr="3B00", settings=PATIENT, faults=()):
     with Room() as room:
         card, handler = Card(room, "tty", atr, faults=faults), Handler()
         same(handler.create(LUN, f"{card.tty}:{settings}"), SUCCESS)
@@ -132,7 +133,7 @@ def extended():
     """Extended commands and responses at T=1, up to the longest."""
     card, handler = LongCard(), Handler()
     try:
-        same(handler.create(LUN, f"{card.tty}:echo=no,slack=2000,baud=1000000"), SUCCESS)
+        same(handler.create(LUN, f"{card.tty}:echo=no,{PATIENT},baud=1000000"), SUCCESS)
         same(handler.power(LUN, UP)[0], SUCCESS)
         same(handler.protocol(LUN, T1), SUCCESS)
         for size in (1, 254, 256, 257, 4096, 65535, 65536):
@@ -217,9 +218,9 @@ def begins_itself(handler, _):
 def has_patience(handler, _):
     """The time of a command begins with it, and not with the session."""
     protocol = 0 if handler.power(LUN, UP)[1] == "3B00" else 1
-    for command, answer in ((SELECT, "610B"), ("00CA5F2006", "5F20034A4F459000")):
-        same(handler.transmit(LUN, protocol, command), (SUCCESS, answer))
-        time.sleep(1.2)
+    same(handler.transmit(LUN, protocol, SELECT), (SUCCESS, "610B"))
+    time.sleep(4.2)
+    same(handler.transmit(LUN, protocol, "00CA5F2006"), (SUCCESS, "5F20034A4F459000"))
 
 
 def waits(handler, card):
@@ -322,6 +323,6 @@ def group(case):
          lambda: with_card(waits, "3B800181", "slack=400", ["command 2, delay 1s"]))
     for atr in ("3B00", "3B800181"):
         case(f"a session of more than the patience, {atr}",
-             lambda atr=atr: with_card(has_patience, atr, "slack=2000,patience=1"))
-    case("after a fault", lambda: with_card(is_lost))
+             lambda atr=atr: with_card(has_patience, atr, f"{PATIENT},patience=4"))
+    case("after a fault", lambda: with_card(is_lost, settings=BRIEF))
     case("no state", no_state)

@@ -10,9 +10,10 @@ import threading
 import time
 from concurrent.futures import ThreadPoolExecutor
 
-from faults_cases import RIGHT, SCRIPT, session
+from faults_cases import ATRS, RIGHT, SCRIPT, session
 from programs_cases import Gpg, has
-from world import INSTALLED, SELECT, Card, Pcscd, Room, Wrong, await_that, run, same
+from world import (BRIEF, INSTALLED, PATIENT, SECONDS, SELECT, Card, Pcscd, Room, Wrong, await_that,
+                   run, same)
 
 # Two programs. The second one has a transaction, and then resets the card.
 COMPETES = """
@@ -54,13 +55,16 @@ COMPETED = ["Command successful."] * 2 + [
 PIN = "3132333435363738"
 NEVER_ENDS = ("while read it; do case $it in header*) echo from-card;; command*) exec sleep 1000;;"
               " esac; done")
-FORMS = [PIN, "31 32 33 34", "31:32:33:34", "12345678", "1234"]
+FORMS = [PIN[:8], PIN[8:], "31 32 33 34", "31:32:33:34", "12345678"]
+# The setting `patience`, in seconds: less than the simulation waits for a program. What a program
+# may take to end, in seconds: less than a reader waits for its card.
+BOUND, AT_ONCE = 4, 15
 
 
 def wrong_settings():
     with Room() as room:
         card = Card(room, "tty")
-        pcscd = Pcscd(room, [("Good", f"{card.tty}:echo=yes,slack=2000"),
+        pcscd = Pcscd(room, [("Good", f"{card.tty}:echo=yes,{PATIENT}"),
                              ("Bad", f"{card.tty}:echo=yes,present=cts"),
                              ("Worse", f"{card.tty}:presence=rts")])
         same(pcscd.await_readers(1), ["Good 00 00"])
@@ -71,7 +75,7 @@ def wrong_settings():
         pcscd.end()
 
 
-def one_reader(room, card, settings="slack=2000", options=()):
+def one_reader(room, card, settings=PATIENT, options=()):
     pcscd = Pcscd(room, [("Life", f"{card.tty}:{settings}")], options=options)
     name, = pcscd.await_readers(1)
     await_that("the first reset", lambda: card.resets)
@@ -82,7 +86,7 @@ def in_the_middle(room, card, name):
     """Starts a session whose second command lasts. Returns the program."""
     script, output = room.path / "script", room.path / "program"
     script.write_text("".join(f"{it}\n" for it in SCRIPT), encoding="utf-8")
-    until = time.monotonic() + 60
+    until = time.monotonic() + SECONDS
     while time.monotonic() < until:
         before = len(card.heard())
         program = room.start([INSTALLED.parent / "gt_pcsc", "-r", name, "-f", script], output)
@@ -100,7 +104,7 @@ def back_at_once():
         first, second = Card(room, "first"), Card(room, "second", "3B800181")
         tty = room.path / "tty"
         tty.symlink_to(first.tty.readlink())
-        pcscd = Pcscd(room, [("Life", f"{tty}:slack=2000")])
+        pcscd = Pcscd(room, [("Life", f"{tty}:{PATIENT}")])
         name, = pcscd.await_readers(1)
         await_that("the first reset", lambda: first.resets)
         same(session(name, SCRIPT), (0, RIGHT))
@@ -113,10 +117,11 @@ def back_at_once():
         pcscd.end()
 
 
-def ends(program, seconds):
+def ends(program):
+    """The status of a program that does not wait for its card any more."""
     began = time.monotonic()
-    status = program.wait(60)
-    if time.monotonic() - began > seconds:
+    status = program.wait(SECONDS)
+    if time.monotonic() - began > AT_ONCE:
         raise Wrong(f"it ends after {time.monotonic() - began:.1f} s")
     return status
 
@@ -125,10 +130,10 @@ def card_killed():
     """The adapter is unplugged in the middle, and comes back with another card."""
     with Room() as room:
         card = Card(room, "tty", faults=["command 2, delay 40s"])
-        pcscd, name = one_reader(room, card, "slack=30000")
+        pcscd, name = one_reader(room, card)
         program = in_the_middle(room, card, name)
         card.end()
-        same(ends(program, 20), 1, "status")
+        same(ends(program), 1, "status")
         same((room.path / "program").read_text(encoding="utf-8").splitlines(),
              [RIGHT[0], "line 2: the reader is gone"])
         pcscd.await_log(f"{card.tty}: the line is gone")
@@ -157,8 +162,8 @@ def is_removed():
     with Room() as room:
         other = Card(room, "other")
         card = Card(room, "tty")
-        pcscd = Pcscd(room, [("Stays", f"{other.tty}:slack=2000"),
-                             ("Goes", f"{card.tty}:slack=2000")])
+        pcscd = Pcscd(room, [("Stays", f"{other.tty}:{PATIENT}"),
+                             ("Goes", f"{card.tty}:{PATIENT}")])
         names = pcscd.await_readers(2)
         for count in (1, 2, 3):
             same(session(names[1], SCRIPT), (0, RIGHT))
@@ -190,7 +195,7 @@ def name_vanishes():
 
 def plugged_in_later():
     with Room() as room:
-        pcscd = Pcscd(room, [("Later", f"{room.path}/tty:slack=2000")])
+        pcscd = Pcscd(room, [("Later", f"{room.path}/tty:{PATIENT}")])
         name, = pcscd.await_readers(1)
         status, said = run(["gt_pcsc", "-r", name, "get", "51"])
         same(status, 1)
@@ -203,13 +208,13 @@ def plugged_in_later():
 def pcscd_killed(number):
     """The program ends, and the next pcscd finds the tty free."""
     with Room() as room:
-        card = Card(room, "tty", faults=["command 2, delay 4s"])
-        pcscd, name = one_reader(room, card, "slack=30000")
+        card = Card(room, "tty", faults=["command 2, delay 12s"])
+        pcscd, name = one_reader(room, card)
         program = in_the_middle(room, card, name)
         pcscd.end(number)
-        same(ends(program, 10), 1, "status")
+        same(ends(program), 1, "status")
         resets = card.resets
-        pcscd = Pcscd(room, [("Life", f"{card.tty}:slack=2000")])
+        pcscd = Pcscd(room, [("Life", f"{card.tty}:{PATIENT}")])
         pcscd.await_readers(1)
         await_that("a reset", lambda: card.resets > resets)
         same(session(name, SCRIPT), (0, RIGHT))
@@ -220,7 +225,7 @@ def program_killed():
     """The next program gets a card that was reset, since the first held a transaction."""
     with Room() as room:
         card = Card(room, "tty", faults=["command 2, delay 3s"])
-        pcscd, name = one_reader(room, card, "slack=30000")
+        pcscd, name = one_reader(room, card)
         program = in_the_middle(room, card, name)
         program.kill()
         program.wait()
@@ -234,14 +239,14 @@ def is_held():
         card = Card(room, "tty")
         near = os.open(card.tty, os.O_RDWR | os.O_NOCTTY)
         fcntl.lockf(near, fcntl.LOCK_EX | fcntl.LOCK_NB)
-        pcscd = Pcscd(room, [("Held", f"{card.tty}:slack=2000")])
+        pcscd = Pcscd(room, [("Held", f"{card.tty}:{PATIENT}")])
         pcscd.await_log(f"{card.tty}: process {os.getpid()} has '{str(card.tty)[:60]}")
         os.close(near)
         name, = pcscd.await_readers(1)
         same(session(name, SCRIPT), (0, RIGHT))
         # a second reader at the same tty is refused
         pcscd.end()
-        pcscd = Pcscd(room, [("One", f"{card.tty}:slack=2000"), ("Two", f"{card.tty}:slack=2000")])
+        pcscd = Pcscd(room, [("One", f"{card.tty}:{PATIENT}"), ("Two", f"{card.tty}:{PATIENT}")])
         pcscd.await_log(f"process {pcscd.process.pid} has ")
         same(len(re.findall("process [0-9]+ has ", pcscd.said())), 1)
         pcscd.end()
@@ -251,13 +256,13 @@ def has_a_bound():
     """NULL bytes without end end with the patience."""
     with Room() as room:
         card = Card(room, "tty", faults=["command 2, nulls 9999999"])
-        pcscd, name = one_reader(room, card, "slack=2000,patience=2")
+        pcscd, name = one_reader(room, card, f"{PATIENT},patience={BOUND}")
         began = time.monotonic()
         status, lines = session(name, SCRIPT)
         same((status, lines[:-1]), (1, RIGHT[:1]))
         pcscd.await_log(f"{card.tty}: the command takes longer than the setting 'patience'")
         seconds = time.monotonic() - began
-        if not 2 <= seconds < 30:
+        if not BOUND <= seconds < SECONDS:
             raise Wrong(f"it ends after {seconds:.1f} s")
         pcscd.end()
 
@@ -266,13 +271,13 @@ def never_ends(atr):
     """A card that asks for more time without end ends with the patience, at T=0 and T=1."""
     with Room() as room:
         card = Card(room, "tty", atr, own=f"sh -c '{NEVER_ENDS}'")
-        pcscd, name = one_reader(room, card, "slack=2000,patience=2")
+        pcscd, name = one_reader(room, card, f"{PATIENT},patience={BOUND}")
         began = time.monotonic()
         status, lines = session(name, ["send 8010000001"])
         seconds = time.monotonic() - began
         same(status, 1, lines)
         pcscd.await_log(f"{card.tty}: the command takes longer than the setting 'patience'")
-        if not 2 <= seconds < 30:
+        if not BOUND <= seconds < SECONDS:
             raise Wrong(f"it ends after {seconds:.1f} s")
         pcscd.end()
 
@@ -280,17 +285,16 @@ def never_ends(atr):
 def beside_a_slow_one():
     """A command that lasts at one reader does not hold up another."""
     with Room() as room:
-        slow = Card(room, "slow", faults=["command 2, delay 8s"])
+        slow = Card(room, "slow", faults=["command 2, delay 15s"])
         quick = Card(room, "quick", "3B800181")
-        pcscd = Pcscd(room, [("Slow", f"{slow.tty}:slack=30000"),
-                             ("Quick", f"{quick.tty}:slack=2000")])
+        pcscd = Pcscd(room, [("Slow", f"{slow.tty}:{PATIENT}"),
+                             ("Quick", f"{quick.tty}:{PATIENT}")])
         names = pcscd.await_readers(2)
         await_that("resets", lambda: slow.resets and quick.resets)
         program = in_the_middle(room, slow, names[0])
-        for _ in range(3):
-            same(session(names[1], SCRIPT), (0, RIGHT))
+        same(session(names[1], SCRIPT), (0, RIGHT))
         same(program.poll(), None, "status of the slow one:")
-        same(ends(program, 40), 0, "status")
+        same(program.wait(SECONDS), 0, "status")
         same((room.path / "program").read_text(encoding="utf-8").splitlines(), RIGHT)
         pcscd.end()
 
@@ -322,9 +326,9 @@ def two_see_each_other():
 def no_secret(protocol):
     """No byte of a command is in a log, whatever happens to it."""
     with Room() as room:
-        card = Card(room, "tty", {0: "3B00", 1: "3B800181"}[protocol],
+        card = Card(room, "tty", ATRS[protocol],
                     faults=["command 3, power off", "command 2, refuse 63C2"])
-        pcscd, name = one_reader(room, card, "slack=200", ["--debug"])
+        pcscd, name = one_reader(room, card, BRIEF, ["--debug"])
         verify = f"00200080 08 {PIN}".replace(" ", "")
         for _ in range(2):
             session(name, [SCRIPT[0], f"send {verify}", f"send {verify}"])
@@ -338,8 +342,8 @@ def no_secret(protocol):
 def no_pin_of_gpg(faults):
     """GnuPG's PIN is in no line of pcscd's log or of its own daemon's, whatever becomes of it."""
     with Room() as room:
-        card = Card(room, "tty", "3B800181", faults=faults, own="openpgp:OpenPgp")
-        pcscd, name = one_reader(room, card, "slack=200", ["--debug"])
+        card = Card(room, "tty", ATRS[1], faults=faults, own="openpgp:OpenPgp")
+        pcscd, name = one_reader(room, card, BRIEF, ["--debug"])
         gpg = Gpg(room, name)
         log = gpg.path / "log"
         (gpg.path / "scdaemon.conf").open("a").write(f"log-file {log}\nverbose\n")
@@ -347,7 +351,8 @@ def no_pin_of_gpg(faults):
         gpg.status()
         found = [gpg.sign("64738291"), gpg.sign("123456")]
         same(found, [2, 2] if faults else [2, 0])
-        logs = pcscd.said() + log.read_text(encoding="utf-8")
+        # a line of pcscd begins with a time
+        logs = re.sub("^[0-9]+ ", "", pcscd.said(), flags=re.M) + log.read_text(encoding="utf-8")
         for pin in ("64738291", "123456"):
             digits = pin.encode().hex(" ")
             forms = [pin, digits, digits.replace(" ", ""), digits.replace(" ", ":")]

@@ -5,7 +5,7 @@ import sys
 import threading
 import time
 
-from world import TESTED, TOP, Pcscd, Room, await_that, run, same
+from world import BRIEF, PATIENT, TESTED, TOP, Pcscd, Room, await_that, run, same
 
 sys.path.append(str(TOP / "checks/serial"))
 from tty_cases import EVEN, SET, Marking, Tty  # noqa: E402
@@ -71,13 +71,13 @@ class Played(threading.Thread):
 class Desk(Room):
     """A pcscd whose only reader is at a tty by the stand-in, with this card."""
 
-    def __init__(self, settings="", refuses="", inputs="", **card):
+    def __init__(self, settings="", refuses="", inputs="", slack=PATIENT, **card):
         super().__init__()
         self.tty = self.enter_context(Tty(refuses))
         self.tty.switch(inputs)
         self.card = Played(self.tty, **card)
         self.callback(lambda: (self.card.is_over.set(), self.card.join()))
-        self.settings = f"{self.tty.line.name}:echo=no,slack=1500{settings}"
+        self.settings = f"{self.tty.line.name}:echo=no,{slack}{settings}"
         self.pcscd = self.begin()
 
     def begin(self):
@@ -119,7 +119,7 @@ def always():
 
 def pulled():
     """A card that is pulled in the middle of a command. The next program begins with a reset."""
-    with Desk(",presence=cts", inputs="cts") as desk:
+    with Desk(",presence=cts", inputs="cts", slack=BRIEF) as desk:
         desk.await_session(DONE)
         desk.card.is_pulled.set()
         desk.card.begun.clear()
@@ -128,7 +128,7 @@ def pulled():
         program.start()
         await_that("a command", desk.card.begun.is_set)
         desk.tty.switch("")
-        program.join(60)
+        program.join()
         same(said, [(1, "operation 1: no card in the reader\n")])
         desk.pcscd.await_log("the card is silent")
         resets = desk.card.count
@@ -151,7 +151,7 @@ def bounces():
             desk.tty.switch("")
             time.sleep(pause)
             desk.tty.switch("cts")
-            program.join(60)
+            program.join()
             desk.await_session(DONE)
 
 
@@ -166,13 +166,13 @@ def resets(settings, first, last):
 
 def second_try():
     """A card that answers to the second reset alone."""
-    with Desk(mute=1) as desk:
+    with Desk(mute=1, slack=BRIEF) as desk:
         desk.await_session(DONE)
         same(desk.pcscd.said(), "")
 
 
 def mute():
-    with Desk(mute=99) as desk:
+    with Desk(mute=99, slack=BRIEF) as desk:
         desk.pcscd.await_log(f"{desk.tty.line.name}: the card does not answer to reset")
 
 

@@ -12,8 +12,8 @@ from concurrent.futures import ThreadPoolExecutor
 from pathlib import Path
 
 from long_card import LongCard, pattern
-from world import (EXAMPLES, INSTALLED, SELECT, SELECTED, TESTED, TOP, Card, Pcscd, Room, run,
-                   same)
+from world import (EXAMPLES, INSTALLED, PATIENT, SELECT, SELECTED, TESTED, TOP, Card, Pcscd, Room,
+                   run, same)
 
 COUNT = 49
 PUT, GET = "00DA005102{:04X}", "00CA005104"
@@ -232,7 +232,7 @@ def faults_of(pcscd):
 
 
 def device_of(card, echo):
-    return f"{card.tty}:slack=2000,echo={'yes' if echo else 'no'}"
+    return f"{card.tty}:{PATIENT},echo={'yes' if echo else 'no'}"
 
 
 def of_its_own(case, program):
@@ -289,7 +289,7 @@ def extended():
     """An answer of 65,536 bytes, and a command of as many less one."""
     card = LongCard()
     with Room() as room:
-        pcscd = Pcscd(room, [("Long", f"{card.tty}:echo=no,slack=2000,baud=1000000")])
+        pcscd = Pcscd(room, [("Long", f"{card.tty}:echo=no,{PATIENT},baud=1000000")])
         name, = pcscd.await_readers(1)
         data = pattern(65535)
         script = room.path / "script"
@@ -309,7 +309,7 @@ def with_library(library):
     """The library itself, with a card that talks both."""
     with Room() as room:
         card = Card(room, "tty", "3B9011800100", echo=False)
-        pcscd = Pcscd(room, [("Both", f"{card.tty}:slack=2000,echo=no")], library)
+        pcscd = Pcscd(room, [("Both", f"{card.tty}:{PATIENT},echo=no")], library)
         name, = pcscd.await_readers(1)
         for protocol in (0, 1, 0):
             same(with_pyscard(name, protocol), 0, "status")

@@ -17,6 +17,9 @@ SELECT, SELECTED = "00A4040007A0000000031010", "6F098407A0000000031010"
 TABLE = ["app A0000000031010", "object 5F20 4A4F45"]
 EXAMPLES = TOP / "bindings/python/examples"
 SECONDS = int(os.environ.get("READER_SECONDS", "60"))
+# No card that works is so late on a busy machine. Where a test waits for a silent card: a shorter
+# time, and a delay beyond it.
+PATIENT, BRIEF, TOO_LATE = "slack=20000", "slack=2500", "9s"
 
 
 class Wrong(AssertionError):

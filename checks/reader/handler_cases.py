@@ -2,8 +2,10 @@
 
 import ctypes
 import hashlib
+import os
 import subprocess
 import time
+from pathlib import Path
 
 from long_card import LongCard, pattern
 from world import (BRIEF, BUILD, INSTALLED, PATIENT, SELECT, SELECTED, Card, Room, Wrong,
@@ -59,9 +61,12 @@ class Handler:
     def transmit(self, lun, t, command, room=70000):
         sent = bytes.fromhex(command)
         answer, length = ctypes.create_string_buffer(room + 1), ctypes.c_ulong(room)
+        back = Header(99, 16)
         code = self.its.IFDHTransmitToICC(
             ctypes.c_ulong(lun), Header(t, 16), sent, ctypes.c_ulong(len(sent)), answer,
-            ctypes.byref(length), ctypes.byref(Header()))
+            ctypes.byref(length), ctypes.byref(back))
+        if code == SUCCESS:
+            same(back.Protocol, t, "the protocol of the answer:")
         return code, answer.raw[: length.value].hex().upper()
 
     def control(self, lun, number, room=40):
@@ -78,14 +83,22 @@ class Handler:
         return self.control(lun, int(features[4:], 16))
 
 
-def with_card(test, atr="3B00", settings=PATIENT, faults=()):
+def with_card(test, atr="3B00", settings=PATIENT, faults=(), echo=True):
     with Room() as room:
-        card, handler = Card(room, "tty", atr, faults=faults), Handler()
+        card, handler = Card(room, "tty", atr, echo, faults), Handler()
         same(handler.create(LUN, f"{card.tty}:{settings}"), SUCCESS)
         try:
             test(handler, card)
         finally:
             handler.close(LUN)
+        same(holders(card.tty), [], "still open:")
+
+
+def holders(link):
+    """This process's files that are what the link names."""
+    name = str(link.readlink()) if link.is_symlink() else "no name"
+    return [it for it in Path("/proc/self/fd").iterdir()
+            if it.is_symlink() and os.path.realpath(it) == name]
 
 
 def numbers(handler, card):
@@ -208,6 +221,39 @@ def commands(handler, _):
     same(handler.transmit(LUN, 1, "00CA5F2000", 8), (SUCCESS, "5F20034A4F459000"))
 
 
+def rates(handler, card):
+    """PPS1 is asked for if the flags have it (IFD_NEGOTIATE_PTS1 is 1), and for no other of them."""
+    for flags, wanted in ((0, []), (2, []), (4, []), (1, ["> FF10947B"])):
+        before = len(card.heard())
+        same(handler.power(LUN, UP), (SUCCESS, "3B1094"))
+        same(handler.protocol(LUN, T0, flags), SUCCESS)
+        same(handler.transmit(LUN, 0, SELECT), (SUCCESS, "610B"))
+        await_that("the trace", lambda: f"> {SELECT[10:]}" in card.heard()[before:])
+        found = [it for it in card.heard()[before:] if it.startswith("> FF")]
+        same(found, wanted, f"{flags}:")
+
+
+def is_quiet(handler, _):
+    """Without an echo the line is silent before each header, as long as the setting says."""
+    same(handler.power(LUN, UP)[0], SUCCESS)
+    began = time.monotonic()
+    same(handler.transmit(LUN, 0, SELECT), (SUCCESS, "610B"))
+    if time.monotonic() - began < 0.9:
+        raise Wrong(f"a header after {time.monotonic() - began:.2f} s")
+
+
+def has_pace(handler, _):
+    """At 1200 baud 100 characters take 10 ms each, and the next command waits for them: a pseudo
+    terminal has no pace of its own."""
+    same(handler.power(LUN, UP)[0], SUCCESS)
+    same(handler.transmit(LUN, 0, SELECT), (SUCCESS, "610B"))
+    began = time.monotonic()
+    for command in (f"00DA005164{'AB' * 100}", SELECT):
+        same(handler.transmit(LUN, 0, command)[0], SUCCESS)
+    if time.monotonic() - began < 1:
+        raise Wrong(f"it takes {time.monotonic() - began:.2f} s")
+
+
 def begins_itself(handler, _):
     """Without SetProtocolParameters the first command begins with its protocol."""
     same(handler.power(LUN, UP)[0], SUCCESS)
@@ -216,11 +262,13 @@ def begins_itself(handler, _):
 
 
 def has_patience(handler, _):
-    """The time of a command begins with it, and not with the session."""
+    """The time of a command and of a reset begins with it, and not with the session."""
     protocol = 0 if handler.power(LUN, UP)[1] == "3B00" else 1
     same(handler.transmit(LUN, protocol, SELECT), (SUCCESS, "610B"))
     time.sleep(4.2)
     same(handler.transmit(LUN, protocol, "00CA5F2006"), (SUCCESS, "5F20034A4F459000"))
+    time.sleep(4.2)
+    same(handler.power(LUN, RESET)[0], SUCCESS)
 
 
 def waits(handler, card):
@@ -300,6 +348,41 @@ def no_copy(handler, _):
         same(copies(secret[2:]), [], f"after {command[:4]} the secret is in")
 
 
+def no_copy_of_a_fault(handler, card):
+    """Nor does what a command brought stay if the card falls silent."""
+    protocol = 0 if handler.power(LUN, UP)[1] == "3B00" else 1
+    secret = bytes.fromhex("A1B2C3D4E5F60718")
+    same(handler.transmit(LUN, protocol, SELECT), (SUCCESS, "610B"))
+    same(handler.transmit(LUN, protocol, f"00DA005108{secret.hex()}"), (COMMUNICATION, ""))
+    same(card.struck(), True, "the fault has struck:")
+    same(copies(secret[2:]), [], "the secret is in")
+
+
+class Memory(ctypes.Structure):
+    """What glibc's mallinfo2 returns."""
+    _fields_ = [(name, ctypes.c_size_t) for name in (
+        "arena", "ordblks", "smblks", "hblks", "hblkhd", "usmblks", "fsmblks", "uordblks",
+        "fordblks", "keepcost")]
+
+
+def keeps_no_memory(handler, _):
+    """Sessions and their commands free what they take."""
+    ask = ctypes.CDLL(None).mallinfo2
+    ask.restype = Memory
+    protocol = 0 if handler.power(LUN, UP)[1] == "3B00" else 1
+
+    def sessions(count):
+        for _ in range(count):
+            same(handler.power(LUN, UP)[0], SUCCESS)
+            for _ in range(4):
+                same(handler.transmit(LUN, protocol, SELECT), (SUCCESS, "610B"))
+    found = []
+    for _ in range(2):
+        sessions(4)
+        found.append(ask().uordblks + ask().hblkhd)
+    same(max(found[1] - found[0], 1000), 1000, "bytes more:")
+
+
 def settings():
     done = subprocess.run([BUILD / "standin/settings"], capture_output=True, text=True)
     same((done.returncode, done.stderr), (0, ""), done.stdout)
@@ -316,9 +399,19 @@ def group(case):
     case("TPDUs", lambda: with_card(tpdus, "3B1011"))
     case("commands", lambda: with_card(commands, "3B800181"))
     case("commands after PPS", lambda: with_card(commands, "3B9011800100"))
+    case("PPS by the flags", lambda: with_card(rates, "3B1094"))
+    case("the pace of the setting",
+         lambda: with_card(has_pace, settings=f"{PATIENT},baud=1200"))
+    for atr in ("3B00", "3B800181"):
+        case(f"no memory is kept, {atr}", lambda atr=atr: with_card(keeps_no_memory, atr))
+    case("silence by the setting",
+         lambda: with_card(is_quiet, settings=f"{PATIENT},echo=no,quiet=900", echo=False))
     case("no SetProtocolParameters", lambda: with_card(begins_itself, "3B9011800100"))
     case("no copy of a secret at T=0", lambda: with_card(no_copy))
     case("no copy of a secret at T=1", lambda: with_card(no_copy, "3B800181"))
+    for atr in ("3B00", "3B8081210323"):
+        case(f"no copy of a secret after a fault, {atr}",
+             lambda atr=atr: with_card(no_copy_of_a_fault, atr, BRIEF, ["command 2, mute"]))
     case("a card that takes most of BWT",
          lambda: with_card(waits, "3B800181", "slack=400", ["command 2, delay 1s"]))
     for atr in ("3B00", "3B800181"):

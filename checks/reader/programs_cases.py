@@ -270,7 +270,7 @@ def commands_of(card):
 def as_the_page_shows():
     """The commands of READER.md print the lines below them."""
     page = (TOP / "docs/READER.md").read_text(encoding="utf-8")
-    _, *shown = page.split("```")[1].split("\n$ ")
+    _, *shown = page.split("```conf")[1].split("```")[0].split("\n$ ")
     with Room() as room:
         card = Card(room, "tty", atr="", own="openpgp:OpenPgp")
         pcscd = Pcscd(room, [("Serial reader", f"{card.tty}:")], INSTALLED)

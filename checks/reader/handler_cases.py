@@ -222,7 +222,7 @@ def commands(handler, _):
 
 
 def rates(handler, card):
-    """PPS1 is asked for if the flags have it (IFD_NEGOTIATE_PTS1 is 1), and for no other of them."""
+    """PPS1 is asked for if the flags have it (IFD_NEGOTIATE_PTS1 is 1), and for no other flag."""
     for flags, wanted in ((0, []), (2, []), (4, []), (1, ["> FF10947B"])):
         before = len(card.heard())
         same(handler.power(LUN, UP), (SUCCESS, "3B1094"))
@@ -271,6 +271,13 @@ def has_patience(handler, _):
     same(handler.power(LUN, RESET)[0], SUCCESS)
 
 
+def has_patience_for_pps(handler, _):
+    """So does the time of PPS."""
+    same(handler.power(LUN, UP)[0], SUCCESS)
+    time.sleep(4.2)
+    same(handler.transmit(LUN, 1, SELECT), (SUCCESS, "610B"))
+
+
 def waits(handler, card):
     """A card may take BWT, 1.6 s here."""
     same(handler.power(LUN, UP)[0], SUCCESS)
@@ -279,12 +286,25 @@ def waits(handler, card):
     same(card.struck(), True, "the fault has struck:")
 
 
-def is_lost(handler, card):
-    """After a fault the slot is empty for a second, and the card has no power."""
+def lose(handler):
+    """A fault: the card waits for data, and the program for an answer. Returns the time after it."""
     same(handler.power(LUN, UP)[0], SUCCESS)
     same(handler.transmit(LUN, 0, SELECT), (SUCCESS, "610B"))
-    # the card waits for data, and the program for an answer
     same(handler.transmit(LUN, 0, "00DA005102"), (COMMUNICATION, ""))
+    return time.monotonic()
+
+
+def is_lost_for(handler):
+    """How long the slot is empty after a fault, in seconds: less, if this process was held up."""
+    began = lose(handler)
+    await_that("the slot has a card", lambda: handler.present(LUN) == PRESENT)
+    return time.monotonic() - began
+
+
+def is_lost(handler, card):
+    """After a fault the slot is empty for a second, and the card has no power."""
+    same(any(is_lost_for(handler) > 0.9 for _ in range(4)), True, "a second:")
+    lose(handler)
     same(handler.present(LUN), ABSENT)
     same(handler.transmit(LUN, 0, SELECT), (COMMUNICATION, ""))
     same(handler.get(LUN, 0x0303), (SUCCESS, ""))
@@ -417,5 +437,7 @@ def group(case):
     for atr in ("3B00", "3B800181"):
         case(f"a session of more than the patience, {atr}",
              lambda atr=atr: with_card(has_patience, atr, f"{PATIENT},patience=4"))
+    case("PPS after more than the patience", lambda: with_card(
+        has_patience_for_pps, "3B9011800100", f"{PATIENT},patience=4"))
     case("after a fault", lambda: with_card(is_lost, settings=BRIEF))
     case("no state", no_state)

@@ -25,6 +25,7 @@ from galliumtoad.trials.any_job import AnyJob, AnyRun, card_of, chosen
 from galliumtoad.trials.dialogue import Dialogue, Exchange, Step
 from galliumtoad.trials.kept import Kept
 from galliumtoad.trials.output import Output
+from galliumtoad.trials.room import Room
 from galliumtoad.trials.rows import Row, rows
 from galliumtoad.trials.run import RESET, counted
 from galliumtoad.trials.trial import DOES, Trial
@@ -247,7 +248,7 @@ def test_what_differs_between_two_runs(tmp_path, capsys, monkeypatch):
 
 
 def test_what_stands_for_names_of_a_run():
-    with engine.Room(engine.Terminal([], {"reader": "R"}, "", 1)) as room:
+    with Room({"reader": "R"}, False) as room:
         room.names["tty"] = "/dev/pts/1"
         said = f"{room.tmp}/a {room.tmp}b /dev/pts/1: /dev/pts/12"
         assert room.plain(said) == f"{{tmp}}/a {room.tmp}b {{tty}}: /dev/pts/12"

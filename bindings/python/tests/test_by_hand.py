@@ -42,8 +42,11 @@ class Person:
     def tpdu(self, tpdu, size=0):
         """The data of a response and the status."""
         os.write(self.line, tpdu[:5])
-        if (first := self.read(1)) != tpdu[1:2]:
+        first = self.read(1)
+        if first[0] >> 4 in (6, 9):
             return b"", (first + self.read(1)).hex()
+        if first != tpdu[1:2]:
+            return b"", "no status"
         os.write(self.line, tpdu[5:])
         answer = self.read(size + 2)
         return answer[:-2], answer[-2:].hex()

@@ -15,7 +15,7 @@ from galliumtoad.trials import engine, main
 from galliumtoad.trials.jobs import Jobs, terminals
 from galliumtoad.trials.trial import Trial
 from test_bad_jobs import TERMINAL
-from waiting import wait_until
+from waiting import none_is_left, wait_until
 
 SAFE = ["--card", "any_cards:Safe", "--only", "command 2 status 6"]
 
@@ -54,19 +54,6 @@ def test_each_reader_has_its_port():
         with pytest.raises(SystemExit):
             main([words, "--", "true", "{tty}"])
     assert main(["--jobs", "2", "--", "true", "{reader}"]) == 2
-
-
-def none_is_left(folder):
-    """No process has this folder in its words, and no file of a run is in it."""
-    found = [it for it in Path("/proc").glob("[0-9]*/cmdline") if is_of(it, folder)]
-    return not found and not list(folder.glob("trials-*"))
-
-
-def is_of(path, folder):
-    try:
-        return str(folder).encode() in path.read_bytes()
-    except OSError:  # it has ended
-        return False
 
 
 class Fails:

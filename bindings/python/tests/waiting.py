@@ -32,6 +32,25 @@ def wait_for_looks(program):
     wait_until(lambda: program.poll() is not None or sleeps() >= before + 4)
 
 
+def read_proc(path):
+    """The bytes of a file of a process, or none if the process has ended."""
+    try:
+        return path.read_bytes()
+    except OSError:
+        return b""
+
+
+def none_is_left(folder, session=0):
+    """Whether no process is left that has this folder for its files or is of a session, and no
+    folder of a run."""
+    has_folder = f"TMPDIR={folder}\0".encode()
+    for it in Path("/proc").glob("[0-9]*"):
+        of_session = read_proc(it / "stat").rpartition(b") ")[2].split()[3:4]
+        if has_folder in read_proc(it / "environ") or of_session == [b"%d" % session]:
+            return False
+    return not list(folder.glob("trials-*"))
+
+
 class AtPty:
     """The program `galliumtoad.simulate` at a pseudo terminal, and this end of it."""
 

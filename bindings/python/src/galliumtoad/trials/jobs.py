@@ -5,17 +5,17 @@ import os
 import shutil
 import signal
 import tempfile
-import weakref
 from dataclasses import replace
 from multiprocessing.connection import Connection, wait
-from typing import Any, Callable, Optional, Sequence
+from typing import Any, Callable, Optional, Sequence, Union
 
 from ..mistakes import Mistake
 from .engine import Job, Terminal, tried
+from .interrupts import INTERRUPTS
 from .trial import Trial
 
 FORK = multiprocessing.get_context("fork")
-AWAIT_END = 30.0  # seconds that an interrupted process may take for its end
+AWAIT_END = 30.0  # seconds that a process may take for its end
 
 
 def terminals(terminal: Terminal, count: int, readers: Sequence[str]) -> list[Terminal]:
@@ -36,34 +36,30 @@ def terminals(terminal: Terminal, count: int, readers: Sequence[str]) -> list[Te
             for at in range(count)]
 
 
-def interrupt_once(*_: object) -> None:
-    """Ends what is in progress. Nothing interrupts that end: Ctrl-C reaches each process, and the
-    first one tells the others too."""
-    signal.signal(signal.SIGINT, signal.SIG_IGN)
-    raise KeyboardInterrupt
-
-
 def work(ways: tuple[Connection, Connection], job: Job, trials: Sequence[Trial],
          terminal: Terminal, folder: str) -> None:
-    """What such a process does until the connection ends: takes the place of a trial, and returns
-    what was found, or an error."""
+    """What such a process does until the connection ends, or an interrupt: Ctrl-C reaches each
+    process, and the first one interrupts the others too."""
+    signal.signal(signal.SIGINT, INTERRUPTS.take)
     other, way = ways
     other.close()
     tempfile.tempdir = folder
-    signal.signal(signal.SIGINT, interrupt_once)
     try:
-        signal.pthread_sigmask(signal.SIG_UNBLOCK, [signal.SIGINT])
         while True:
-            it = trials[way.recv()]
-            try:
-                tried(job, it, terminal)
-                way.send(vars(it))
-            except (Mistake, OSError) as why:
-                way.send(why)
+            with INTERRUPTS.wait():
+                at = way.recv()
+            way.send(outcome(job, trials[at], terminal))
     except (EOFError, OSError, KeyboardInterrupt):
         pass
-    finally:
-        signal.signal(signal.SIGINT, signal.SIG_IGN)
+
+
+def outcome(job: Job, trial: Trial, terminal: Terminal) -> Union[dict[str, Any], Exception]:
+    """Tries a terminal. Returns what a trial then has, or the error that came."""
+    try:
+        tried(job, trial, terminal)
+        return vars(trial)
+    except (Mistake, OSError) as why:
+        return why
 
 
 class Worker:
@@ -100,7 +96,8 @@ class Worker:
     def close(self) -> None:
         """Lets it end. Interrupts what it does, if it does something."""
         self.way.close()
-        if self.at is not None and self.process.pid and self.process.is_alive():
+        is_busy = self.at is not None and self.process.is_alive()
+        if is_busy and self.process.pid:
             os.kill(self.process.pid, signal.SIGINT)
 
     def end(self) -> None:
@@ -113,34 +110,28 @@ class Worker:
 class Jobs:
     """Processes that try trials, until the end of `with`."""
 
-    def __init__(self, job: Job, trials: Sequence[Trial], found: Sequence[Terminal]) -> None:
+    def __init__(self, job: Job, trials: Sequence[Trial], terminals: Sequence[Terminal]) -> None:
+        self.job = job
         self.trials = trials
-        self.folder = tempfile.mkdtemp(prefix="trials-")
-        weakref.finalize(self, shutil.rmtree, self.folder, True)  # what an interrupt has left
+        self.terminals = terminals
+        self.folder = ""
         self.workers = list[Worker]()
-        self.made = (job, trials, found)
 
     def __enter__(self) -> "Jobs":
-        job, trials, found = self.made
-        before = signal.pthread_sigmask(signal.SIG_BLOCK, [signal.SIGINT])
+        self.folder = tempfile.mkdtemp(prefix="trials-")
         try:
-            for it in found:
-                self.workers.append(Worker(job, trials, it, self.folder))
-            signal.pthread_sigmask(signal.SIG_SETMASK, before)
+            for it in self.terminals:
+                self.workers.append(Worker(self.job, self.trials, it, self.folder))
         except BaseException:
             self.__exit__()
             raise
         return self
 
     def __exit__(self, *_: object) -> None:
-        before = signal.signal(signal.SIGINT, signal.SIG_IGN)  # it has to end them all
-        try:
-            for it in self.workers:
-                it.close()
-            for it in reversed(self.workers):  # a later one has the connections of those before it
-                it.end()
-        finally:
-            signal.signal(signal.SIGINT, before)
+        for it in self.workers:
+            it.close()
+        for it in reversed(self.workers):  # a later one has the connections of those before it
+            it.end()
         shutil.rmtree(self.folder, ignore_errors=True)
 
     def run(self, places: Sequence[int], done: Callable[[Trial], object]) -> None:
@@ -150,9 +141,11 @@ class Jobs:
         for it in self.workers:
             if left:
                 it.give(left.pop(0))
-        while busy := {it.way: it for it in self.workers if it.at is not None}:
-            for way in wait(list(busy)):
-                worker = next(it for it in self.workers if it.way is way)
-                done(worker.result())
-                if left:
-                    worker.give(left.pop(0))
+        while busy := [it for it in self.workers if it.at is not None]:
+            with INTERRUPTS.wait():
+                ready = wait([it.way for it in busy])
+            for worker in busy:
+                if worker.way in ready:
+                    done(worker.result())
+                    if left:
+                        worker.give(left.pop(0))

@@ -15,6 +15,7 @@ from .any_job import AnyJob, card_of, chosen
 from .by_hand import Hand
 from .expect import accept
 from .fixed import WORDS, FixedJob, LineJob, trials
+from .interrupts import INTERRUPTS
 from .jobs import Jobs, terminals
 from .kept import Kept, source, sums
 from .progress import Progress
@@ -212,7 +213,7 @@ def run_all(job: Union[FixedJob, AnyJob], found: Sequence[engine.Terminal],
             engine.tried(job, trials_[at], found[0])
             results.add(trials_[at])
     else:
-        with Jobs(job, trials_, found[: len(left)]) as jobs:
+        with INTERRUPTS.held(), Jobs(job, trials_, found[: len(left)]) as jobs:
             jobs.run(left, results.add)
     return [first, *trials_]
 

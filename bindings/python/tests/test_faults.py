@@ -5,9 +5,9 @@ import pytest
 from galliumtoad import (T1, Application, BlockError, Card, Get, Level, OwnCard, Put, Select,
                          Terminal)
 from galliumtoad.edits import block, head_size, one_by_one
-from galliumtoad.faults import ECHO, LINE, T0, Faults, Gone, read
+from galliumtoad.faults import ECHO, KINDS, LINE, T0, WHENS, Faults, Gone, read
 from galliumtoad.mistakes import Mistake
-from galliumtoad.simulate import Simulator
+from galliumtoad.simulate import Simulator, main
 from galliumtoad.trials.fixed import AID, VALUE, trials
 from line_in_memory import End, at_t0, at_t1
 
@@ -586,3 +586,14 @@ def test_the_name_of_a_file_controls_no_terminal():
     faults.begin(bytes(5))
     faults.changed(b"\x90\x00")
     assert told == ["fault at command 1: a\\x9b:1: command 1, status 6A82"]
+
+
+def test_the_list_of_faults(capsys):
+    """It has all that a line may say, each with its text in a column or below, and no more."""
+    with pytest.raises(SystemExit) as end:
+        main(["--list"])
+    listed = capsys.readouterr().out.partition("\nWHEN\n")[2].rpartition("\n\n")[0]
+    lines = [it for it in listed.splitlines() if it and not it.startswith((" ", "WHAT, "))]
+    column = 21
+    found = [it[:column].strip() if it[column - 1 : column] == " " else it for it in lines]
+    assert end.value.code == 0 and sorted(found) == sorted([*WHENS, *KINDS])

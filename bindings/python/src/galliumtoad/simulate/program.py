@@ -22,7 +22,7 @@ RATES = ["9600", "19200", "38400", "57600", "115200"]
 
 def parser() -> argparse.ArgumentParser:
     it = argparse.ArgumentParser("galliumtoad.simulate", description="A card with faults.",
-                                 epilog="docs/FAULTS.md says more.")
+                                 epilog="docs/SIMULATE.md says more.")
     add_cards(it.add_mutually_exclusive_group(required=True))
     add_places(it.add_mutually_exclusive_group(required=True))
     add = it.add_argument
@@ -40,7 +40,16 @@ def parser() -> argparse.ArgumentParser:
         default="6D00", help="with --replay: the status of a command that the capture lacks, or"
         " `ask` for an answer that you type; without it 6D00")
     add("--strict", action="store_true", help="with --replay: ends at another command")
+    add("--list", action=ListFaults, nargs=0, help="prints all faults, and runs nothing")
     return it
+
+
+class ListFaults(argparse.Action):
+    """Prints the words of all faults, and ends the program."""
+
+    def __call__(self, parser: argparse.ArgumentParser, *_: object) -> None:
+        print(Path(__file__).with_name("faults.txt").read_text("utf-8"), end="")
+        parser.exit()
 
 
 def add_cards(it: "argparse._MutuallyExclusiveGroup") -> None:

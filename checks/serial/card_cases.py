@@ -106,7 +106,8 @@ def sessions():
 def pps():
     """A card takes the rate that it offers, and that of a reset. It omits the rest of a request. It
     does not answer an invalid request, or one for another protocol."""
-    offers, own = "3B1095", 111600
+    offers = "3B1095"
+    own = 111600
     for title, request, response, baud in (
         ("its own rate", "FF10957A", "FF10957A", own),
         ("the rate of a reset", "FF1011FE", "FF1011FE", 9600),
@@ -220,7 +221,8 @@ class Far:
     the near end. At the end of `with` it must end with this output and these faults."""
 
     def __init__(self, *words, text="", output="", fault=""):
-        self.folder, self.ends = tempfile.TemporaryDirectory(), (output, fault)
+        self.folder = tempfile.TemporaryDirectory()
+        self.ends = (output, fault)
         path = table(self.folder.name, text) if text else TABLE
         self.program = Program("serial_card", ["--pty", *words, path])
         self.name = self.program.first_line()
@@ -238,7 +240,8 @@ class Far:
     def opened(self):
         """Opens the near end for these tests. The caller closes it."""
         near = Line.__new__(Line)
-        near.far, near.near = os.open(self.name, os.O_RDWR | os.O_NOCTTY), -1
+        near.far = os.open(self.name, os.O_RDWR | os.O_NOCTTY)
+        near.near = -1
         return near, Other(near, echo=False)
 
     def plays(self, dialogue):

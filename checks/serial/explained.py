@@ -34,7 +34,8 @@ def shown(trace):
 def wanted(log, has_answers):
     """The same by the commands that the card has carried out. With `has_answers` a line of
     gt_serial follows the last command of each operation."""
-    objects, data = t1_card.Objects(), ""
+    objects = t1_card.Objects()
+    data = ""
     for apdu in log:
         response = objects.carry_out(apdu).hex().upper()
         yield f"{apdu.hex().upper()} {response}"
@@ -47,7 +48,8 @@ def wanted(log, has_answers):
 def look(trace, log, has_answers, misses):
     """The trace shows the first commands of this log, with their answers. It may miss at most
     `misses` of the lines at the end."""
-    found, lines = list(shown(trace)), list(wanted(log, has_answers))
+    found = list(shown(trace))
+    lines = list(wanted(log, has_answers))
     for one, other in zip(found, lines):
         assert one == other, f"{one}, and not {other}, in {trace}"
     assert 0 <= len(lines) - len(found) <= misses, f"{len(found)} of {len(lines)} lines of {trace}"

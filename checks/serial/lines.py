@@ -59,7 +59,9 @@ class Wire(threading.Thread):
 
     def __init__(self, one, other, echo, heaps):
         super().__init__(daemon=True)
-        self.ends, self.echo, self.heaps = (one, other), echo, heaps
+        self.ends = (one, other)
+        self.echo = echo
+        self.heaps = heaps
         self.is_cut = threading.Event()
 
     def run(self):
@@ -89,7 +91,9 @@ class Other:
     after the last echo."""
 
     def __init__(self, line, echo=True, inverse=False, heaps=False):
-        self.line, self.echo, self.heaps = line, echo, heaps
+        self.line = line
+        self.echo = echo
+        self.heaps = heaps
         self.inverse = inverse
         self.held = b""
         self.sent_at = 0.0

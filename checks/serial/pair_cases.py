@@ -150,7 +150,8 @@ def comes_back_soon():
 
 def await_opened(process, name):
     """Waits until a process has opened a tty, and a moment more, in which it locks it."""
-    until, found = time.monotonic() + SECONDS, []
+    until = time.monotonic() + SECONDS
+    found = []
     while name not in found:
         assert time.monotonic() < until, f"{name} was not opened"
         time.sleep(0.01)
@@ -185,7 +186,8 @@ def is_in_time(echo):
 
 def keeps_values():
     """A terminal finds what another one has stored before, over the line that a card creates."""
-    select, answer = ["select", "A0000000031010"], "= 9000 6F098407A0000000031010\n"
+    select = ["select", "A0000000031010"]
+    answer = "= 9000 6F098407A0000000031010\n"
     with Far() as far:
         for words, output in (
             (["put", "5F20", "FF60FF"], "= 9000\n"),

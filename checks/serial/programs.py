@@ -69,7 +69,8 @@ class Program:
             faults += b"it hangs\n"
         RUNNING.discard(self.process)
         self.seconds = time.monotonic() - self.began
-        self.output, self.faults = (output or b"").decode(), faults.decode()
+        self.output = (output or b"").decode()
+        self.faults = faults.decode()
         return self.process.returncode
 
     def kill(self, number):

@@ -31,11 +31,16 @@ class Objects:
     """The card of data objects above the end. `log` has the commands that it has carried out."""
 
     def __init__(self):
-        self.values, self.chain, self.left, self.log = {"5F20": b"JOE"}, b"", b"", []
+        self.values = {"5F20": b"JOE"}
+        self.chain = b""
+        self.left = b""
+        self.log = []
 
     def carry_out(self, apdu):
         self.log.append(apdu)
-        cla, ins, rest = apdu[0], apdu[1], apdu[4:]
+        cla = apdu[0]
+        ins = apdu[1]
+        rest = apdu[4:]
         if ins == 0xA4:
             self.left = bytes.fromhex("6F098407A0000000031010")
         elif ins == 0xDA:
@@ -44,7 +49,8 @@ class Objects:
                 self.values[apdu[2:4].hex().upper()], self.chain = self.chain, b""
             return b"\x90\x00"
         elif ins == 0xCA:
-            tag, value = apdu[2:4], self.values[apdu[2:4].hex().upper()]
+            tag = apdu[2:4]
+            value = self.values[apdu[2:4].hex().upper()]
             size = len(value)
             head = [0x82, *divmod(size, 256)] if size > 255 else [0x81, size][size < 128:]
             self.left = tag + bytes(head) + value
@@ -60,10 +66,14 @@ class Card:
     more than three wrong blocks in a row."""
 
     def __init__(self, objects):
-        self.objects, self.wrong = objects, 0
+        self.objects = objects
+        self.wrong = 0
         self.due = self.next = 0
-        self.ifsd, self.asked = 32, False
-        self.command, self.response, self.sent = b"", None, b""
+        self.ifsd = 32
+        self.asked = False
+        self.command = b""
+        self.response = None
+        self.sent = b""
 
     def again(self):
         return block(0xC3, b"\x01") if self.asked else block(0x80 | self.due << 4)
@@ -78,7 +88,8 @@ class Card:
         self.wrong = 0 if is_valid(data) else self.wrong + 1
         if self.wrong:
             return b"" if self.wrong > 3 else block(0x81 | self.due << 4)
-        pcb, info = data[1], data[3:-1]
+        pcb = data[1]
+        info = data[3:-1]
         if pcb == 0xC1:
             self.ifsd = info[0]
             return block(0xE1, info)
@@ -106,10 +117,13 @@ def carried_out(trace):
     """The commands that a card has carried out, from its trace of received and sent blocks. It has
     carried out a command if it answers the last block of that with an I-block. It has taken an
     earlier block of it if it asks for the next one."""
-    log, fields, due = [], b"", 0
+    log = []
+    fields = b""
+    due = 0
     lines = [line.split() for line in trace.splitlines()[2:]]
     for (_, came), (_, went) in zip(lines[::2], lines[1::2]):
-        block, answer = bytes.fromhex(came), bytes.fromhex(went)
+        block = bytes.fromhex(came)
+        answer = bytes.fromhex(went)
         if not is_valid(block) or block[1] >= 0x80 or block[1] >> 6 != due:
             continue
         is_last = not block[1] & 0x20
@@ -140,7 +154,9 @@ class Noise:
     Without it the choice is random, and `well` is the share of undamaged blocks."""
 
     def __init__(self, seed, fates=None, well=0.8):
-        self.random, self.fates, self.well = random.Random(seed), fates, well
+        self.random = random.Random(seed)
+        self.fates = fates
+        self.well = well
         self.count = 0
 
     def next(self):
@@ -154,7 +170,8 @@ class Noise:
         while True:
             at = self.random.randrange(len(data))
             byte = bytes([data[at] ^ self.random.randrange(1, 256)])
-            front, back = data[:at], data[at + 1:]
+            front = data[:at]
+            back = data[at + 1:]
             found = {"changed": front + byte + back, "short": front + back, "stopped": front,
                      "doubled": data[:at + 1] + data[at:], "lost": b""}[fate]
             if not is_valid(found):
@@ -166,7 +183,8 @@ class Noisy(threading.Thread):
 
     def __init__(self, noise, late):
         super().__init__(daemon=True)
-        self.noise, self.late = noise, late
+        self.noise = noise
+        self.late = late
         self.is_over = threading.Event()
 
     def pass_on(self, data):
@@ -186,7 +204,8 @@ class Wire(Noisy):
 
     def __init__(self, terminal, card, noise, late):
         super().__init__(noise, late)
-        self.terminal, self.card = terminal, card
+        self.terminal = terminal
+        self.card = card
         # the received part of a block from each end
         self.held = {terminal: b"", card: b""}
 
@@ -218,7 +237,9 @@ class Play(Noisy):
 
     def __init__(self, line, answer, card, noise, late, stops):
         super().__init__(noise, late)
-        self.line, self.card, self.stops = line, card, stops
+        self.line = line
+        self.card = card
+        self.stops = stops
         line.write(bytes.fromhex(answer))
 
     def receive(self):

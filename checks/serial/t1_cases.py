@@ -20,15 +20,18 @@ from terminal_cases import Case, at_line, look
 
 SELECT_APDU = "00A4040007A000000003101000"
 NAME = "6F098407A00000000310109000"
-GET_APDU, JOE = "00CA5F2000", "5F20034A4F459000"
+GET_APDU = "00CA5F2000"
+JOE = "5F20034A4F459000"
 # T=1 first, IFSC 32, LRC, BWI 0 and CWI 3. At 9,600 baud BWT is 100 ms and 11 etu, and CWT 19 etu.
 QUICK = "3B8081210323"
 # As QUICK, with BWI 9: BWT is 51 s.
 SLOW = "3B80812193B3"
 # IFSC 254 and 4, and the times of QUICK.
-LONG, IFSC_4 = "3B808131FE03CD", "3B808131040337"
+LONG = "3B808131FE03CD"
+IFSC_4 = "3B808131040337"
 TOP = Path(__file__).resolve().parents[2]
-BOOK, HEADER = TOP / "examples/blocks", TOP / "bindings/c/include/galliumtoad.h"
+BOOK = TOP / "examples/blocks"
+HEADER = TOP / "bindings/c/include/galliumtoad.h"
 BWT = 0.1
 CAUSE = "operation 1: too many tries without progress: the card "
 OUTCOMES = {"none": "has not carried out the command\n",
@@ -63,7 +66,8 @@ def dialogues():
             yield Case(f"T=1, inverse {inverse}, echo {echo}",
                        f"< {'3F' if inverse else '3B'}{QUICK[2:]} {whole}", WORDS, ANSWERS,
                        echo=echo, inverse=inverse, slack=5000)
-    first, sent = f"< {QUICK} {OPEN}", talk(">", f"00:{SELECT_APDU}")
+    first = f"< {QUICK} {OPEN}"
+    sent = talk(">", f"00:{SELECT_APDU}")
     for title, words in (
         ("a damaged block", (">", "82", "<", f"00:{NAME}")),
         ("more time", ("<", "C3:02", ">", "E3:02", "<", f"00:{NAME}")),
@@ -76,7 +80,8 @@ def dialogues():
     yield Case("T=1: a block that stops, long before BWT",
                f"< {SLOW} {OPEN}{sent}< 0000 " + talk(">", "82", "<", f"00:{NAME}"),
                terminal_cases.SELECT, terminal_cases.SELECTED, echo=False)
-    answer, more = talk("<", f"00:{NAME}"), talk("<", "C3:05", ">", "E3:05")
+    answer = talk("<", f"00:{NAME}")
+    more = talk("<", "C3:05", ">", "E3:05")
     yield Case("T=1: a block with a pause of less than the slack",
                first + sent + f"{answer[:10]} ~ 0.3 < {answer[10:]}" + GETS, WORDS, ANSWERS,
                echo=False, slack=2000)
@@ -105,7 +110,8 @@ def block_waiting_time():
 def long_waiting_times():
     """BWT is 0.8 s with BWI 3, and CWT 0.85 s with CWI 13. A terminal that gets no more asks again
     after that and the slack, 0.2 s."""
-    first, sent = talk(">", "C1:FE"), talk(">", f"00:{SELECT_APDU}")
+    first = talk(">", "C1:FE")
+    sent = talk(">", f"00:{SELECT_APDU}")
     for answer, dialogue, again, least in (
         ("3B8081213313", first, first, 1.0),
         ("3B8081210D2D", OPEN + sent + "< 0000 ", talk(">", "82"), 1.05),
@@ -131,14 +137,16 @@ def block_guard_time():
     with at_line("--no-echo", "--baud", "1200", words=words, echo=False) as (_, program, other):
         play(other, f"< {QUICK} {OPEN}{SELECTS}{''.join(gets)}", card=True)
         look(program, program.end(), terminal_cases.SELECTED + terminal_cases.GOT * 8, "", 0)
-        select, get = 4 + len(SELECT_APDU) // 2, 4 + len(GET_APDU) // 2
+        select = 4 + len(SELECT_APDU) // 2
+        get = 4 + len(GET_APDU) // 2
         assert min(other.gaps[5 + select :: get]) >= 0.018, f"{other.gaps}"
 
 
 def faults():
     """A terminal gives up in each of its ways, or refuses an answer to reset. Each wait lasts for
     BWT and the slack."""
-    first, sent = f"< {QUICK} ", talk(">", f"00:{SELECT_APDU}")
+    first = f"< {QUICK} "
+    sent = talk(">", f"00:{SELECT_APDU}")
     slack = 300
     for title, dialogue, fault in (
         ("before a command", talk(">", "C1:FE", "<", "C2", ">", "E2"),
@@ -181,8 +189,10 @@ BROKEN = (
 
 def breaks():
     """A card whose block is damaged once; and cards that are given up."""
-    first, sent = f"< {QUICK} {OPEN}", talk(">", f"00:{SELECT_APDU}")
-    select, slack = terminal_cases.SELECT, 500
+    first = f"< {QUICK} {OPEN}"
+    sent = talk(">", f"00:{SELECT_APDU}")
+    select = terminal_cases.SELECT
+    slack = 500
     for title, bad in BROKEN:
         asks = "81" if title == "a wrong LRC" else "82"
         yield Case(f"T=1: {title}", f"{first}{sent}< {bad} " + talk(">", asks, "<", f"00:{NAME}"),
@@ -208,7 +218,8 @@ def breaks():
 def echoes():
     """A line that returns the terminal's first block: at once, late, in pieces 50 ms apart, damaged
     at first, or before the card's answer."""
-    sent, echo = talk(">", "C1:FE"), talk("<", "C1:FE")
+    sent = talk(">", "C1:FE")
+    echo = talk("<", "C1:FE")
     for title, dialogue in (
         ("at once", sent + echo),
         ("30 ms late", f"{sent}~ 0.03 {echo}"),
@@ -233,9 +244,11 @@ MAY_HAVE = "the card may have carried out the command\n"
 def echoes_of_blocks():
     """A line that returns other blocks than the first, though it should have no echo; and blocks of
     a card that are the same as the terminal's, or nearly."""
-    fault, select = f"the line echoes: {MAY_HAVE}", terminal_cases.SELECT
+    fault = f"the line echoes: {MAY_HAVE}"
+    select = terminal_cases.SELECT
     sent, answer = (talk(sign, f"00:{SELECT_APDU}") for sign in "><")
-    lone, other = talk("<", f"00:{NAME}"), talk("<", "C3:02", ">", "E3:02", "<", "E3:02")
+    lone = talk("<", f"00:{NAME}")
+    other = talk("<", "C3:02", ">", "E3:02", "<", "E3:02")
     for title, dialogue in (
         ("at once", sent + answer),
         ("in pieces", f"{sent}~ 0.05 {answer[:4]} ~ 0.05 < {answer[4:10]} ~ 0.05 < {answer[10:]}"),
@@ -280,8 +293,10 @@ def resets_itself():
     """A card that resets itself sends its answer to reset in place of a block, or within one. A
     fresh card would carry the command out again."""
     fault = "operation 1: the card has reset itself"
-    select, again = terminal_cases.SELECT, f"< {QUICK} "
-    sent, answer = talk(">", f"00:{SELECT_APDU}"), talk("<", f"00:{NAME}")
+    select = terminal_cases.SELECT
+    again = f"< {QUICK} "
+    sent = talk(">", f"00:{SELECT_APDU}")
+    answer = talk("<", f"00:{NAME}")
     slow = "".join(f"~ 0.4 < {QUICK[at:at + 2]} " for at in range(0, len(QUICK), 2))
     for title, dialogue in (
         ("in place of a response", sent + again),
@@ -339,7 +354,8 @@ def outcomes():
     4, so that each command takes two blocks."""
     first = f"< {IFSC_4} {OPEN}"
     command = talk(">", "20:80100000", "<", "90", ">", "40:00")
-    lost, lost_again = talk(*[">", "92"] * 4), talk(*[">", "82"] * 4)
+    lost = talk(*[">", "92"] * 4)
+    lost_again = talk(*[">", "82"] * 4)
     for title, dialogue, outcome in (
         ("its first block", talk(">", "20:80100000") + lost_again, "none"),
         ("its second block", command + lost_again, "unknown"),
@@ -394,17 +410,18 @@ def chapter():
     for file in sorted(BOOK.glob("*.talk")):
         lines = [line for line in file.read_text(encoding="utf-8").splitlines() if line[0] != "#"]
         rows = [line.split()[:2] for line in lines if line[0] in "<>~"]
-        told = {sign: "".join(f"{line[2 * (sign == '!'):]}\n" for line in lines if line[0] == sign)
-                for sign in "=!"}
+        output = "".join(f"{line}\n" for line in lines if line[0] == "=")
+        faults = "".join(f"{line[2:]}\n" for line in lines if line[0] == "!")
         words = " ".join(line for line in lines if line[0] not in "<>~=!").split()
         yield Case(f"T=1: the book, {file.stem}", " ".join(word for row in rows for word in row),
-                   words, told["="], told["!"], bool(told["!"]), echo=False)
+                   words, output, faults, bool(faults), echo=False)
 
 
 SELECTED = talk("<", f"00:{NAME}")
 R0 = talk("<", "82")
 # T=0 first, then T=1: with LRC, and with CRC.
-BY_PPS, CRC_BY_PPS = "3B80800101", "3B8080410140"
+BY_PPS = "3B80800101"
+CRC_BY_PPS = "3B8080410140"
 
 
 def own_part():
@@ -511,7 +528,8 @@ class Talk:
         assert sum(tag[1] in (0xA4, 0xCA) for tag in tags) <= 2, "a command was carried out twice"
 
 
-LONG_TALK, TALK = Talk(3000), Talk(600)
+LONG_TALK = Talk(3000)
+TALK = Talk(600)
 # The number of random lines: SESSIONS in the environment, or fewer if words select tests or the
 # first fault ends the run.
 SESSIONS = int(os.environ.get("SESSIONS", 2000 if len(sys.argv) == 1 else 40))

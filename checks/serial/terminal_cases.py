@@ -79,7 +79,8 @@ def run(case):
         options += case.options if case.echo else ["--no-echo", *case.options]
         other = Other(line, case.echo, case.inverse, case.heaps)
         *most, sign, last_word = ["", "", *case.dialogue.split()]
-        played, baud = "", None
+        played = ""
+        baud = None
         # the answer to reset is on the line when the program opens it, which is the reset
         first = most[:4] if most[2:3] == ["<"] and len(most) > 4 else []
         play(other, " ".join(first), card=True)
@@ -180,7 +181,8 @@ def cut_short():
     not carried it out. The program prints the status, and stops, with -k too."""
     cut = "operation 1: the card ended the command before it took the data\n"
     put = ["put", "5F20", "414E4E"]
-    header, one_byte = "< 3B00 > 00DA5F2003 ", "< 25 > 41 "
+    header = "< 3B00 > 00DA5F2003 "
+    one_byte = "< 25 > 41 "
     long_put = ["put", "5F20", "00*600"]
     pieces = [
         ("> 10DA5F20FF ", "< DA > " + "00" * 255 + " < 9000 "),
@@ -347,7 +349,8 @@ def waiting():
     """Each wait lasts as long as the rules say, plus the slack, and no longer."""
     fault = "operation 1: the card is silent\n"
     # 2 * 960 * 372 cycles at 3.5712 MHz are 0.2 s, and with Fi = 512 0.275 s
-    quick, slow = "< 3B804002 ", "< 3B90954002 "
+    quick = "< 3B804002 "
+    slow = "< 3B90954002 "
     for title, dialogue, waits in (
         ("silent after a header", quick + SHORT_WORDS, 0.2),
         ("silent after a header, with Fi 512", slow + SHORT_WORDS, 0.275),
@@ -466,7 +469,8 @@ def early():
 def stale():
     """Without an echo the card is silent for 20 ms, or for --quiet, before each header and PPS
     request. An adapter keeps a byte for 16 ms."""
-    behind, fault = "a byte after the answer to reset\n", "operation 2: unexpected byte\n"
+    behind = "a byte after the answer to reset\n"
+    fault = "operation 2: unexpected byte\n"
     put = ["put", "5F20", "414E4E"]
     stored = "< 3B00 > 00DA5F2003 < DA > 414E4E < 9000 "
     long = ["--quiet", "300"]
@@ -634,7 +638,9 @@ def resets_itself():
     """A card that resets itself sends its answer to reset again, here in place of a procedure byte,
     as data or as a status."""
     # TS, with a status in the first bytes of the answer, and at its end
-    direct, inverse, ends = "3B119000", "3F139000AABB", "3B6800000073C84013009000"
+    direct = "3B119000"
+    inverse = "3F139000AABB"
+    ends = "3B6800000073C84013009000"
     for echo in (True, False):
         for title, answer, dialogue, words in (
             ("in place of a status", ends, f"{SHORT_WORDS}< {ends} ", SHORT),
@@ -685,7 +691,9 @@ def resets_itself():
 def pps():
     """PPS requests, and responses of the card. 9,600 baud are a 372nd of the clock, and Fi 512 with
     Di 16 gives 111,600 baud."""
-    answer, request, rest = "< 3B1095 ", "> FF10957A ", SHORT_WORDS + DONE
+    answer = "< 3B1095 "
+    request = "> FF10957A "
+    rest = SHORT_WORDS + DONE
     own = ["--pps"]
     yield Case("PPS", answer + request + "< FF10957A " + rest, SHORT, "= 9000\n", options=own,
                baud=111600)

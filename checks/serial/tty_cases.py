@@ -18,7 +18,8 @@ from programs import BUILD, TABLE, Program, in_time, must_end
 from terminal_cases import DONE, LATE, SHORT, SHORT_WORDS, look
 
 SET = "set {} baud, 8 bits, {} parity with marks, 2 stop bits"
-EVEN, ODD = SET.format(9600, "even"), SET.format(9600, "odd")
+EVEN = SET.format(9600, "even")
+ODD = SET.format(9600, "odd")
 # The settings of the pseudo terminal before a test.
 BEFORE = "set 38400 baud, 8 bits, no parity, 1 stop bit, for a modem"
 END = ["drop what has not gone", BEFORE]
@@ -31,7 +32,8 @@ class Tty:
     """A line whose near end is a tty by the stand-in, and the stand-in's notes."""
 
     def __init__(self, refuses="", rates=None):
-        self.line, self.folder = Line(), tempfile.TemporaryDirectory()
+        self.line = Line()
+        self.folder = tempfile.TemporaryDirectory()
         self.log, self.inputs = (Path(self.folder.name) / it for it in ("log", "inputs"))
         self.log.write_text("", encoding="utf-8")
         self.switch("")
@@ -77,9 +79,13 @@ class Marking(Other):
 
     def put(self, byte, is_marked):
         self.sent_at = time.monotonic()
-        self.line.write(
-            bytes([0xFF, 0, byte]) if is_marked else bytes([byte] * (2 if byte == 0xFF else 1))
-        )
+        mark = b"\xFF"
+        if is_marked:
+            self.line.write(mark + bytes([0, byte]))
+        elif byte == 0xFF:
+            self.line.write(mark + mark)
+        else:
+            self.line.write(bytes([byte]))
 
     def sends_marked(self, digits):
         for byte in self.raw(bytes.fromhex(digits)):
@@ -148,7 +154,8 @@ def resets():
 
 def second_resets():
     """A second reset after an invalid answer, and the fault if that fails too."""
-    well, wrong = f"< 3B00 {SHORT_WORDS}{DONE}", NONE + "wrong check byte, at byte 4\n"
+    well = f"< 3B00 {SHORT_WORDS}{DONE}"
+    wrong = NONE + "wrong check byte, at byte 4\n"
     for title, first, second, fault in (
         ("silence", "", well, ""),
         ("a wrong check byte", "< 3B80018F", well, ""),
@@ -273,7 +280,8 @@ def inverse_odd():
 
 def parities():
     """Characters with wrong parity. The bytes of a late mark are more than 20 ms apart."""
-    reset, begun = [EVEN, *RESET], f"< 3B00 {SHORT_WORDS}"
+    reset = [EVEN, *RESET]
+    begun = f"< 3B00 {SHORT_WORDS}"
     for title, dialogue in (
         ("of TS", "! 3B"),
         ("of TS, inverse", "< 3F"),
@@ -290,7 +298,8 @@ def parities():
         yield (f"a wrong parity {title}", lambda of=(dialogue, noted, place): terminal(
             of[0], [*reset, *of[1], *END], of[2] + PARITY, output="", inverse="3F" in of[0]))
 
-    first, command = "< 3B8081210323 > 00C101FE3E ~ 0.05 ", ["send", "00B0000000"]
+    first = "< 3B8081210323 > 00C101FE3E ~ 0.05 "
+    command = ["send", "00B0000000"]
     opened = first + "< 00E101FE1E > 00000500B0000000B5 ~ 0.05 "
     for dialogue in (first + "# FF00", first + "# 00E101FE1EFF00", opened + "# 0000026D006FFF00"):
         yield (f"a mark of a wrong parity that is cut at T=1, {dialogue}", lambda of=dialogue:
@@ -321,7 +330,8 @@ def parities():
 def without_echo():
     """Without an echo a card is too early if it sends before the terminal's last byte can have been
     sent: at 1,200 baud a character takes 10 ms. An echo is still detected."""
-    slow, even = ["--baud", "1200"], SET.format(1200, "even")
+    slow = ["--baud", "1200"]
+    even = SET.format(1200, "even")
     noted = [even, *RESET, even, *END]
     tried = [even, *RESET, SET.format(13950, "even"), even, *END]
     fault = "operation 1: unexpected byte\n"

@@ -10,7 +10,8 @@ import sys
 
 TTY, JOB, MISTAKE = sys.argv[1:]
 SECONDS = float(os.environ.get("PATIENCE", "12"))  # its waiting time
-SELECT, NAME = bytes.fromhex("00A40400"), bytes.fromhex("A000000003")
+SELECT = bytes.fromhex("00A40400")
+NAME = bytes.fromhex("A000000003")
 OK = "9000"
 # The statuses other than 9000 that a mistake takes for success, at these commands of a job.
 LAX = {
@@ -53,7 +54,8 @@ def send(data, of="data"):
 def tpdu(header, data=b"", wanted=0):
     """Carries a TPDU. Returns the data of the response, and the status."""
     send(header + bytes([len(data) or wanted]), "a header")
-    received, left = b"", data
+    received = b""
+    left = data
     while True:
         byte = read(1)[0]
         if byte == 0x60 and not has("NULL not known"):

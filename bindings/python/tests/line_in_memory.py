@@ -16,12 +16,15 @@ RESET = None  # in place of a character
 class Memory(Port):
     """A port that notes what the card sends."""
 
-    fd, baud = -1, 9600
+    fd = -1
+    baud = 9600
 
     def __init__(self, has_marks=False):
-        self.has_marks, self.sent = has_marks, b""
+        self.has_marks = has_marks
+        self.sent = b""
         self.noted = []  # with pauses and wrong parities
-        self.rates, self.rate = [], None
+        self.rates = []
+        self.rate = None
 
     def write(self, data):
         self.sent += data
@@ -64,8 +67,10 @@ class End(Line):
 
     def __init__(self, it, talks, has_echo=False, has_marks=False):
         super().__init__(it, Memory(has_marks), has_echo)
-        self.fault, self.blocks = None, []
-        self.asks, self.characters = SimpleQueue(), SimpleQueue()
+        self.fault = None
+        self.blocks = []
+        self.asks = SimpleQueue()
+        self.characters = SimpleQueue()
         threading.Thread(target=self.go, args=[talks], daemon=True).start()
         self.asks.get(timeout=SECONDS)
 

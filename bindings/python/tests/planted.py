@@ -18,7 +18,9 @@ MISTAKE = sys.argv[5]
 # its waiting time
 SECONDS = {"a short waiting time": 0.5, "a long waiting time": 8}.get(MISTAKE, 1.5)
 # Linux: settings with any rate
-GET_SETTINGS, PUT_SETTINGS, SETTINGS = 0x802C542A, 0x402C542B, "4I20s2I"
+GET_SETTINGS = 0x802C542A
+PUT_SETTINGS = 0x402C542B
+SETTINGS = "4I20s2I"
 # The statuses other than 9000 that a mistake takes for success, at these commands of the job.
 LAX = {
     "no status": (".", "12345"), "no status of select": (".", "1"),
@@ -65,7 +67,10 @@ def send(data, of="data"):
 def by_characters(header, data=b""):
     """Carries a TPDU of T=0. Returns the data of the response, and the status."""
     send(header, "a header")
-    wanted, received, nulls, singles = 0 if data else header[4] or 256, b"", 0, 0
+    wanted = 0 if data else header[4] or 256
+    received = b""
+    nulls = 0
+    singles = 0
     while True:
         byte = next_byte()
         if byte == 0x60 and not has("NULL not known") and not (nulls and has("one NULL at most")):
@@ -77,7 +82,8 @@ def by_characters(header, data=b""):
             if data and status == 0x9000 and not has("an early status"):
                 sys.exit("9000 before the data")
             return received, status
-        procedure, is_lax = byte ^ header[1], has("any procedure byte")
+        procedure = byte ^ header[1]
+        is_lax = has("any procedure byte")
         if has("INS with another lowest bit taken"):
             procedure &= 0xFE if procedure < 2 else 0xFF
         if has("one complement known") and procedure == 0xFF:
@@ -148,7 +154,8 @@ def expect(place, status):
     if status != 0x9000 and has("crashes at a refusal"):
         os.kill(os.getpid(), signal.SIGSEGV)
     if status != 0x9000 and not (str(place) in places and re.match(form, f"{status:04X}")):
-        sys.exit(f"{status:04X} at command {place}" + "\x1B" * has("a control character printed"))
+        control = "\x1B" if has("a control character printed") else ""
+        sys.exit(f"{status:04X} at command {place}{control}")
 
 
 def choose():
@@ -181,7 +188,8 @@ def get():
     if data[:1] != TAG and not has("the tag not compared"):
         sys.exit("another tag")
     size = 2 + sum(it & 0x7F for it in data[1:2] if it > 0x7F)  # of the tag and the length
-    length, value = int.from_bytes(data[2:size] or data[1:2], "big"), data[size:]
+    length = int.from_bytes(data[2:size] or data[1:2], "big")
+    value = data[size:]
     is_short = length > len(value) and has("a cut value", "the first part taken")
     is_long = length < len(value) and has("too much taken")
     if length != len(value) and not (is_short or is_long or has("the length not compared")):

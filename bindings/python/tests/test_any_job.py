@@ -68,7 +68,9 @@ def test_verdicts(expected, has_struck, is_true, is_changed, is_twice, verdicts)
         assert it.judged() == verdict
 
 
-VERIFY, DEBIT, OTHER = COMMAND("002000800431323334"), COMMAND("8040000A00"), COMMAND("8040000B00")
+VERIFY = COMMAND("002000800431323334")
+DEBIT = COMMAND("8040000A00")
+OTHER = COMMAND("8040000B00")
 SELECT = COMMAND("00A4040000")
 
 
@@ -124,8 +126,10 @@ def step(command, *answers):
     return Step(3, "A", COMMAND(command), [COMMAND(it) for it in answers])
 
 
-CASE_1, CASE_2 = step("8040000A00", "9000"), step("00B0000003", "0102039000")
-CASE_3, CASE_4 = step("00200080021234", "9000"), step("00A40400023F00", "6103", "6F01009000")
+CASE_1 = step("8040000A00", "9000")
+CASE_2 = step("00B0000003", "0102039000")
+CASE_3 = step("00200080021234", "9000")
+CASE_4 = step("00A40400023F00", "6103", "6F01009000")
 NO_FILE = step("00A40400023F00", "6A82")
 
 
@@ -167,7 +171,7 @@ def test_the_trial_of_a_fault():
 
 
 def test_which_are_chosen():
-    every = [Trial(f"command {it} mute", "", "reports", "", title="READ" * (it > 5))
+    every = [Trial(f"command {it} mute", "", "reports", "", title="READ" if it > 5 else "VERIFY")
              for it in range(1, 10)]
     assert chosen(every, "", None, 0) == chosen(every, "", 9, 0) == every
     assert chosen(every, "command 7", None, 0) == [every[6]]
@@ -315,7 +319,9 @@ def test_a_dialogue():
     assert "\n#2 GET RESPONSE" in it.text() and "summary" not in it.text()
 
 
-CHOOSE, PAY, ASK = "00A4040005A000000003", "8040000A00", "8050000001"
+CHOOSE = "00A4040005A000000003"
+PAY = "8040000A00"
+ASK = "8050000001"
 
 
 def ran(card, faults, commands, usual=None, protocol=1):
@@ -419,7 +425,8 @@ def test_what_is_usual():
 def test_the_faults_of_a_job(is_line, is_t1, places):
     """Those that can happen where the terminal is."""
     job = AnyJob("any_cards:Safe", is_line, 0)
-    job.usual, job.is_t1 = usual_of(FILE, FILE), is_t1
+    job.usual = usual_of(FILE, FILE)
+    job.is_t1 = is_t1
     found = job.trials()
     assert {it.place for trial in found for it in trial.read()} == places
     assert len(found) == len({it.name for it in found})
@@ -490,7 +497,8 @@ def test_a_capture_that_is_left_out_in_part(tmp_path, capsys):
 
 def test_files_of_results(tmp_path, capsys):
     """By command, with the dialogue and a mark at the fault."""
-    page, junit = tmp_path / "page", tmp_path / "junit"
+    page = tmp_path / "page"
+    junit = tmp_path / "junit"
     words = ["--html", str(page), "--junit", str(junit), "--only", "command 2 status 63"]
     assert tried(tmp_path, "safe", "a wrong PIN taken", *words)[0] == 1
     line = "at command 2, VERIFY, 2 of 2 faults pass silently: 2 wrong"
@@ -580,7 +588,8 @@ def test_the_command_after_a_run_that_fails(tmp_path):
 
 def test_results_that_are_kept(tmp_path, capsys, monkeypatch):
     """A run that is interrupted continues where it was, and at its end the file goes."""
-    kept, home = tmp_path / "kept", tmp_path / "home"
+    kept = tmp_path / "kept"
+    home = tmp_path / "home"
     home.mkdir()
     words = [sys.executable, "-m", "galliumtoad.trials", *SAFE, "--keep", str(kept), "--only",
              "command 2 status", *JOB]
@@ -606,7 +615,8 @@ def test_results_that_are_kept(tmp_path, capsys, monkeypatch):
 
 
 def test_results_that_were_kept_of_something_else(tmp_path, capsys):
-    kept, ours = tmp_path / "kept", tmp_path / "ours"
+    kept = tmp_path / "kept"
+    ours = tmp_path / "ours"
     ours.write_text("nonsense")
     words = [*SAFE, "--keep", str(kept), "--only", "command 1 status 6200"]
     options = ["--json", str(tmp_path)]  # a folder: the run ends before it begins
@@ -660,8 +670,8 @@ class Reader(Vpcd):
 
     def __init__(self):
         self.server, self.desk = (socket.create_server(("localhost", 0)) for _ in range(2))
-        self.address, self.name = (f"localhost:{self.server.getsockname()[1]}",
-                                   str(self.desk.getsockname()[1]))
+        self.address = f"localhost:{self.server.getsockname()[1]}"
+        self.name = str(self.desk.getsockname()[1])
         threading.Thread(target=self.serve, daemon=True).start()
 
     def serve(self):
@@ -684,7 +694,8 @@ class Reader(Vpcd):
 def test_over_a_reader(tmp_path, monkeypatch, takes, wrong):
     """Whole commands alone have faults there."""
     monkeypatch.setattr(engine, "GONE_AFTER", 0.1)
-    reader, made = Reader(), tmp_path / "made"
+    reader = Reader()
+    made = tmp_path / "made"
     words = [*SAFE, "--vpcd", reader.address, "--reader", reader.name, "--json", str(made)]
     job = [sys.executable, "-IS", "-c", OVER_A_READER, "{reader}", takes]
     assert main([*words, "--only", "command 2 status", "--", *job]) == bool(wrong)

@@ -163,7 +163,8 @@ def at(card):
     return lambda command: card.apdu(bytes.fromhex(command)).hex().upper()
 
 
-VERIFY_TO_SIGN, SIGN = "0020008106313233343536", f"002A9E9A13{bytes(range(19)).hex()}00"
+VERIFY_TO_SIGN = "0020008106313233343536"
+SIGN = f"002A9E9A13{bytes(range(19)).hex()}00"
 
 
 def test_the_key_of_the_openpgp_card():
@@ -171,7 +172,8 @@ def test_the_key_of_the_openpgp_card():
     with OwnCard(application("openpgp:OpenPgp")) as card:
         ask = at(card)
         ask("00A4040006D27600012401")
-        first, rest = ask("0047810002B60000"), ask("00C000000E")
+        first = ask("0047810002B60000")
+        rest = ask("00C000000E")
         assert (first[-4:], rest[-4:]) == ("610E", "9000")
         key = first[:-4] + rest[:-4]
         assert (key[:18], key[-10:]) == ("7F4982010981820100", "8203010001")
@@ -226,7 +228,9 @@ def test_what_a_reset_of_the_openpgp_card_drops():
 def test_what_a_reset_of_the_pkcs15_card_drops():
     """The selected file, and that the PIN was right."""
     with OwnCard(application("pkcs15:Pkcs15")) as card:
-        ask, select, read = at(card), "00A4080C0450154502", "00B0000004"
+        ask = at(card)
+        select = "00A4080C0450154502"
+        read = "00B0000004"
         assert [ask(it) for it in (select, "002000010431323334", read)] == [
             "9000", "9000", "546865209000"]
         card.reset()
@@ -283,7 +287,8 @@ def test_the_lines_of_a_program(tmp_path):
         "settled"]
 
 
-HEADER, COMMAND = "header 80100000", "command 80100000 1"
+HEADER = "header 80100000"
+COMMAND = "command 80100000 1"
 
 
 @pytest.mark.parametrize(

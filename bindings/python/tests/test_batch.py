@@ -324,7 +324,8 @@ def test_a_journal_that_was_cut(tmp_path):
     cards = [("431", 1), ("432", 2), ("433", 3)]
     for count, rows, held in seen:
         ended_rows, rest = divmod(count, 3)
-        assert rows == done[:ended_rows] + [(ended_rows + 1, "unsure")] * bool(rest)
+        unsure = [(ended_rows + 1, "unsure")] if rest else []
+        assert rows == done[:ended_rows] + unsure
         assert held == cards[: ended_rows + (rest == 2)]
 
 

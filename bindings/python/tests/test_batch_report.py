@@ -145,7 +145,7 @@ def test_a_run_writes_its_report_after_each_step(tmp_path):
         step()
         at._next = 0  # it is time
         at._turn()
-        assert [[it[0], it[8]] for it in rows_of(file)] == [["1", state]] * bool(state)
+        assert [[it[0], it[8]] for it in rows_of(file)] == ([["1", state]] if state else [])
     file.unlink()
     at._next = 0
     at._turn()

@@ -24,7 +24,9 @@ class Person:
     def __init__(self, says=lambda status, shown: f"ok {shown}" if shown else f"error {status}"):
         self.line, theirs = pty.openpty()
         tty.setraw(theirs)
-        self.theirs, self.says, self.jobs = theirs, says, 0
+        self.theirs = theirs
+        self.says = says
+        self.jobs = 0
 
     def change_rate(self):
         """A pseudo terminal has no parity. The system takes one that is set there only along with

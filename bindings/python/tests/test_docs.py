@@ -96,7 +96,7 @@ def test_the_package_stays_small():
 
 
 @pytest.mark.parametrize(("names", "most"), [(SIMULATION, 2500), (["batch/*.py"], 2600),
-                                             (["trials/*.py"], 1900)])
+                                             (["trials/*.py"], 2100)])
 def test_programs_stay_small(names, most):
     """Each function has fewer than 40 lines."""
     files = [it for name in names for it in TOP.glob(f"src/galliumtoad/{name}")]

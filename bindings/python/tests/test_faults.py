@@ -116,7 +116,8 @@ def test_each_trial_has_its_row():
 def test_whole_commands(trial):
     it, struck = simulator(trial.faults)
     it.is_over.set()  # no waiting
-    found, changes = whole(it), CHANGES[trial.name]
+    found = whole(it)
+    changes = CHANGES[trial.name]
     assert len(struck) == len(trial.read())
     for number, expected in changes.items():
         if isinstance(expected, int):  # the size of the stored value
@@ -130,7 +131,8 @@ def test_whole_commands(trial):
 
 def said(it, *tpdus):
     """What the card sends in each TPDU."""
-    end, found = End(it, at_t0), []
+    end = End(it, at_t0)
+    found = []
     for tpdu in tpdus:
         found.append(b"")
         try:
@@ -326,7 +328,8 @@ def test_fields_of_each_size(size):
     value = VALUE[:253]
     for command in (SELECT, bytes.fromhex("00DA0051FD") + value):
         it.card.apdu(command)
-    end, number = End(it, at_t1), 0
+    end = End(it, at_t1)
+    number = 0
 
     def ask(pcb, field=b""):
         return end.pass_block(block(0, pcb, field))
@@ -349,7 +352,8 @@ def test_a_card_whose_first_protocol_is_t0_carries_out_commands_at_t1():
     assert sent == [block(0, 0, FCI + b"\x90\0")]
 
 
-PART, DAMAGED = block(0, 0x60, GET_NAME[:2]), block(0, 0x60, GET_NAME[:2])[:-1] + b"\0"
+PART = block(0, 0x60, GET_NAME[:2])
+DAMAGED = block(0, 0x60, GET_NAME[:2])[:-1] + b"\0"
 # Faults, blocks of a terminal that has selected, and the card's answers.
 TALKS = [
     # an abort drops the part of a command, and keeps the numbers

@@ -1,5 +1,5 @@
 """Tests that an interrupt at any line of a run leaves neither a process nor a file, and is not
-lost. A process runs the program, and interrupts itself as it comes to a line for the first time."""
+lost. A process runs the program, and interrupts itself at the first time of a line."""
 
 import os
 import signal
@@ -9,6 +9,7 @@ from pathlib import Path
 
 import pytest
 from galliumtoad import trials
+from galliumtoad.trials.interrupts import Interrupts
 from test_bad_jobs import TERMINAL
 from waiting import none_is_left, wait_until
 
@@ -24,8 +25,84 @@ JOB = ["--only", "command 2 status 6F00", "--card", "any_cards:Safe", "--", "sh"
        "sh", *TERMINAL, "safe", ""]
 
 
+@pytest.fixture
+def handler():
+    """What a program has at its start: these tests may run where SIGINT is ignored."""
+    before = signal.signal(signal.SIGINT, signal.default_int_handler)
+    yield signal.default_int_handler
+    signal.signal(signal.SIGINT, before)
+
+
+def interrupt():
+    signal.raise_signal(signal.SIGINT)
+
+
+def test_an_interrupt_ends_a_wait(handler):
+    it = Interrupts()
+    with pytest.raises(KeyboardInterrupt), it.held(), it.wait():
+        interrupt()
+        pytest.fail("it waits")
+    assert signal.getsignal(signal.SIGINT) == handler
+    with it.held(), it.wait():  # it was one
+        pass
+
+
+def test_what_ends_after_an_interrupt_is_not_interrupted(handler):
+    it = Interrupts()
+    ended = []
+    with pytest.raises(KeyboardInterrupt), it.held():
+        try:
+            with it.wait():
+                interrupt()
+        finally:
+            interrupt()
+            ended.append("all")
+    assert ended == ["all"]
+
+
+def test_an_interrupt_before_a_wait(handler):
+    """It comes as the wait begins, or at the end without one. It hides an error."""
+    it = Interrupts()
+    begun = []
+    with pytest.raises(KeyboardInterrupt), it.held():
+        interrupt()
+        begun.append("all")
+        with it.wait():
+            pytest.fail("it waits")
+    for error in (None, ValueError):
+        with pytest.raises(KeyboardInterrupt), it.held():
+            interrupt()
+            begun.append("all")
+            if error:
+                raise error
+    assert len(begun) == 3
+    with it.held(), it.wait():
+        begun.append("next")
+    with pytest.raises(KeyboardInterrupt):  # nothing holds it
+        interrupt()
+
+
+def test_an_interrupt_after_a_wait(handler):
+    it = Interrupts()
+    ended = []
+    with pytest.raises(KeyboardInterrupt), it.held():
+        with it.wait():
+            pass
+        interrupt()
+        ended.append("all")
+    assert ended
+
+
+def test_a_program_that_nothing_interrupts(handler):
+    signal.signal(signal.SIGINT, signal.SIG_IGN)
+    it = Interrupts()
+    with it.held(), it.wait():
+        interrupt()
+        assert signal.getsignal(signal.SIGINT) == signal.SIG_IGN
+
+
 class Lines:
-    """The lines that the main thread has come to. At the first time of one it interrupts."""
+    """The lines that the main thread has run. At the first time of one it interrupts."""
 
     def __init__(self, last):
         self.seen, self.last = set(), last

@@ -14,7 +14,8 @@ from galliumtoad.trials.lines import trials
 from line_in_memory import RESET as A_RESET
 from line_in_memory import End, from_reset
 
-SLACK, BEYOND = 0.5, 1.5
+SLACK = 0.5
+BEYOND = 1.5
 FCI = "6F098407A0000000031010"
 OBJECT = bytes.fromhex("51820258") + VALUE
 FIRST = OBJECT[:256]
@@ -151,7 +152,8 @@ AGAIN = sent(OK)
 ACKNOWLEDGED = sent(pcb(0x90))  # its second block
 ASKED = sent(pcb(0x92))  # the same after a terminal's R, with the error that says so
 THIRD = sent(pcb(0x80))
-PART, REST = OBJECT[:254], OBJECT[254:256] + b"\x61\x00"
+PART = OBJECT[:254]
+REST = OBJECT[254:256] + b"\x61\x00"
 # At T=1: the command, which block of the card, and what the line carries in place of this one and
 # of those after it.
 BLOCKS = {
@@ -207,7 +209,8 @@ TRIALS = {it.name: it for it in trials(SLACK)}
 
 def end_of(name, has_echo=False):
     """The card's end of a line for a trial, and the list of faults that struck."""
-    trial, struck = TRIALS[name], []
+    trial = TRIALS[name]
+    struck = []
     simulator = Simulator(Card({AID: {}}), bytes.fromhex(trial.atr), Faults(trial.read()))
     simulator.faults.tell = struck.append
     return End(simulator, from_reset, has_echo, MARKS in trial.places), struck
@@ -256,7 +259,8 @@ def test_a_pps_response(name):
     with contextlib.suppress(IndexError):
         end.take_in(b"\0")
     accepted = ("that changes", "late response", "too late", "byte after", "parity")
-    assert end.port.rates == [111600] * any(it in name for it in accepted)
+    is_accepted = any(it in name for it in accepted)
+    assert end.port.rates == ([111600] if is_accepted else [])
 
 
 def test_a_reset_ends_the_rate_of_pps():
@@ -342,7 +346,8 @@ def test_an_error_that_the_card_signals(name):
 
 def turns_of(end):
     """What the line carries at T=1 in each turn of the card, by the number of the command."""
-    found, commands = {}, [SELECT + b"\0", *PUTS, GET]
+    found = {}
+    commands = [SELECT + b"\0", *PUTS, GET]
 
     def line(data, waits):
         if not data:

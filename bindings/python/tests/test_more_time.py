@@ -32,14 +32,16 @@ class Works(Application):
         while not os.path.exists("go"):
             WORK
         Path("ended").touch()
-        return 0x9000, b"JOE" * bool(command.le)
+        return 0x9000, b"JOE" if command.le else b""
 """
 SLEEPS = "time.sleep(0.01)"
 # No other thread of Python runs meanwhile.
 HOLDS = "ctypes.PyDLL(None).usleep(5_000_000); Path('go').touch()"
-READ, UPDATE = bytes.fromhex("80B0000003"), bytes.fromhex("80D600000141")
+READ = bytes.fromhex("80B0000003")
+UPDATE = bytes.fromhex("80D600000141")
 # A waiting time of 0.1 seconds: WI is 1, and BWI is 0. At T=1 WI is 255, which has no effect there.
-T0, T1 = "3B804001", "3B80C1FF210D92"
+T0 = "3B804001"
+T1 = "3B80C1FF210D92"
 MORE, MADE = 0xC3, 0xE3  # S(WTX request) and S(WTX response)
 
 
@@ -198,7 +200,7 @@ def test_an_error_after_some_time(works, error, status, line):
     [keeper] = keepers(card)
     assert card.program.wait(20) == status
     wait_until(lambda: not is_there(keeper))
-    assert card.end()[1].splitlines()[-1:] == [line] * bool(line)
+    assert card.end()[1].splitlines()[-1:] == ([line] if line else [])
 
 
 def test_a_keeper_takes_no_interrupt_and_stays(works):
@@ -234,12 +236,16 @@ class Served:
     """A card at a pseudo terminal in a thread of this process, and this end of it."""
 
     def __init__(self, of):
-        names, self.of, self.has_echo = SimpleQueue(), of, False
+        names = SimpleQueue()
+        self.of = of
+        self.has_echo = False
         self.thread = threading.Thread(target=serve_pty, args=(of, False, names.put), daemon=True)
         self.thread.start()
         self.name = names.get(timeout=60)
 
-    open, read, talk = AtPty.open, AtPty.read, AtPty.talk
+    open = AtPty.open
+    read = AtPty.read
+    talk = AtPty.talk
 
     def has_ended(self):
         self.of.is_over.set()

@@ -13,7 +13,7 @@ from galliumtoad.trials.lines import trials
 
 C = Path(__file__).resolve().parents[2] / "c"
 JOB = ["{tty}", "select", "{aid}", "put", "{tag}", "{value}", "get", "{tag}"]
-SLACK = 0.5  # seconds
+SLACK = 1.5  # seconds: a busy machine is late
 OF_PARITY = [it.name for it in trials(SLACK) if MARKS in it.places]
 
 
@@ -30,8 +30,9 @@ def built(tmp_path_factory):
 def tried(tmp_path, program, *words):
     """The exit status of the trials, and each one's result."""
     made = tmp_path / "made.json"
+    of_terminal = ["--slack", f"{1000 * SLACK:.0f}", "--pps"]
     status = main(["--lines", "--slack", str(SLACK), "--jobs", "8", "--limit", "120",
-                   "--json", str(made), *words, "--", *program, "--slack", "500", "--pps", *JOB])
+                   "--json", str(made), *words, "--", *program, *of_terminal, *JOB])
     return status, {it["name"]: it for it in json.loads(made.read_text())}
 
 
@@ -57,7 +58,7 @@ def looks_at_figures(found):
     T=0, and 22 before a block. The card's last one has 10 of them. A busy machine is late."""
     for name, least in (("gone before a procedure byte", 1.0), ("SW1 alone after a put", 1.0),
                         ("block that is shorter than LEN", 0.85), ("gone within a chain", 1.6)):
-        assert least + SLACK - 0.01 <= numbers(found[name])[0] < least + SLACK + 3, name
+        assert least + SLACK - 0.01 <= numbers(found[name])[0] < least + SLACK + 10, name
     assert found["no fault"]["measured"] == ""
     assert numbers(found["put byte by byte"])[1] >= 16 - 10
     assert numbers(found["many extensions"])[1] >= 22 - 10

@@ -198,7 +198,8 @@ class AtTty:
     line, as a driver returns them: a pseudo terminal has none."""
 
     def __init__(self, of, bits, monkeypatch):
-        self.of, self.bits = of, bits
+        self.of = of
+        self.bits = bits
         self.line, self.theirs = pty.openpty()
         tty.setraw(self.theirs)
         self.set()
@@ -500,7 +501,8 @@ def test_a_fault_of_a_file_whose_name_is_not_utf_8(files, tmp_path):
 
 def test_files_of_another_system(files, monkeypatch):
     """CR before LF. A byte order mark may precede faults; no line of a script begins with one."""
-    table, faults = TABLE, "\uFEFFcommand 1, mute\nafter 2, mute\n"
+    table = TABLE
+    faults = "\uFEFFcommand 1, mute\nafter 2, mute\n"
     found = []
     monkeypatch.setattr(serve, "serve_pty", lambda it, *_: found.append(it))
     assert main([*files(*(it.replace("\n", "\r\n") for it in (table, faults))), "--pty"]) == 0
@@ -569,7 +571,8 @@ def test_a_card_that_vpcd_does_not_ask_for_is_not_in_the_reader(capsys):
     what it waits for."""
     it = Vpcd()
     address = f"localhost:{it.server.getsockname()[1]}"
-    said, waits = "", f"waiting for vpcd at {address}: it asks for no card, as while it has one\n"
+    said = ""
+    waits = f"waiting for vpcd at {address}: it asks for no card, as while it has one\n"
     until = time.monotonic() + 20
     while not said and time.monotonic() < until:
         time.sleep(0.05)

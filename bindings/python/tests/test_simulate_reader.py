@@ -16,7 +16,8 @@ from test_simulate_replay import CAPTURES, SIM
 from waiting import SECONDS, wait_until
 
 TESTS = Path(__file__).resolve().parent
-EXAMPLES, C = TESTS.parent / "examples", TESTS.parents[1] / "c"
+EXAMPLES = TESTS.parent / "examples"
+C = TESTS.parents[1] / "c"
 EXPLAINS = TESTS.parents[1] / "bin" / f"{platform.machine()}-linux-gnu" / "trace_explain"
 VPCD = "/usr/lib/pcsc/drivers/serial/libifdvpcd.so"
 READER = "Virtual PCD 00 00"
@@ -77,7 +78,8 @@ class Desk:
     def __init__(self, path):
         with socket.create_server(("localhost", 0)) as it:
             self.port = it.getsockname()[1]
-        self.path, self.address = path, f"localhost:{self.port}"
+        self.path = path
+        self.address = f"localhost:{self.port}"
         (path / "run").mkdir()
         (path / "conf").write_text(
             f'FRIENDLYNAME "Virtual PCD"\nDEVICENAME /dev/null:{self.port}\nLIBPATH {VPCD}\n'
@@ -142,7 +144,8 @@ def test_a_mute_card_and_one_without_power(desk):
     (desk.path / "table").write_text(f"app {AID}\nobject 5F20 4A4F45\n")
     (desk.path / "faults").write_text("command 3, power off\ncommand 4, mute\n")
     desk.card("--table", desk.path / "table", "--faults", desk.path / "faults")
-    select, get = f"00A4040007{AID}", "00CA5F2000"
+    select = f"00A4040007{AID}"
+    get = "00CA5F2000"
     assert desk.ask(select, get)[0] == ["610b", "5f20034a4f459000"]
     assert desk.ask(select, is_new=False)[0] == []  # no power
     answers, seconds = desk.ask(select)
@@ -153,7 +156,9 @@ def test_a_mute_card_and_one_without_power(desk):
 # At which command of a row a card loses its power, whether it carries that out, and what it holds
 # then. 1 selects, 2 gets the identifier, 3, 5, 7 and 8 put. The others read back. A reader is set
 # aside after five such cards, so some keep their power.
-ONE, TWO, WHOLE = "partly: 1 of 3 objects", "partly: 2 of 3 objects", (0, True, "")
+ONE = "partly: 1 of 3 objects"
+TWO = "partly: 2 of 3 objects"
+WHOLE = (0, True, "")
 PULLED = [(1, True, ""), (2, True, ""), (3, False, "untouched"), (3, True, ONE), (4, True, ONE),
           (5, False, ONE), WHOLE, (5, True, TWO), (6, True, TWO), (7, True, TWO), (8, False, TWO),
           WHOLE, (8, True, "done"), (9, True, "done"), WHOLE]
@@ -200,7 +205,9 @@ def test_a_capture_in_a_reader(desk):
 
 def test_a_batch_whose_cards_are_pulled(desk):
     """Each card has one row: it comes again, and is refused if it has begun to change."""
-    path, table, faults = desk.path, desk.path / "table", desk.path / "faults"
+    path = desk.path
+    table = desk.path / "table"
+    faults = desk.path / "faults"
     names = [f"PERSON {at},{at:08X}" for at in range(len(PULLED))]
     (path / "rows.csv").write_text("\n".join(["name,code", *names, ""]))
     (path / "script").write_text(SCRIPT)
@@ -223,8 +230,12 @@ def test_a_batch_whose_cards_are_pulled(desk):
     await_("insert a card for row 1\n")  # a card that lies in the reader would have to be removed
     for row, (at, is_carried_out, word) in enumerate(PULLED, 1):
         table.write_text(f"app {AID}\nobject 9F7F {row:02X}\natr 3B800181\n")
-        faults.write_text(f"command {at}, power off\n" * (at > 0)
-                          + f"command {at}, forget\n" * (not is_carried_out))
+        lines = []
+        if at > 0:
+            lines.append(f"command {at}, power off\n")
+        if not is_carried_out:
+            lines.append(f"command {at}, forget\n")
+        faults.write_text("".join(lines))
         card = desk.card("--table", table, "--faults", faults)
         await_(f" card {row:02X} has row {row}, which is unsure" if word else
                f" row {row} done, card {row:02X}, ")

@@ -37,7 +37,8 @@ def tpdu(line, header, sent, received, status, **more):
 
 def command(*tpdus):
     """A command of these TPDUs, whose parts are joined."""
-    first, last = tpdus[0], tpdus[-1]
+    first = tpdus[0]
+    last = tpdus[-1]
     joined = {name: "".join(it[name] or "" for it in tpdus) for name in ("sent", "received")}
     return {"type": "command", "line": first["line"], **joined, "status": last["status"],
             "tpdus": list(tpdus)}
@@ -143,7 +144,8 @@ SESSIONS = [RESET, ATR, one(1, "00200080", "", "", "63C2"), RESET, RESET,
 
 def test_a_reset_begins_the_next_session(replay):
     """Only after a command, and the first one follows the last."""
-    card, verify = replay(*SESSIONS), bytes.fromhex("00200080")
+    card = replay(*SESSIONS)
+    verify = bytes.fromhex("00200080")
     with Simulator(OwnCard(card)) as it:
         assert it(verify).hex() == it(verify).hex() == "63c2"
         for status in ("63c1", "63c0", "63c2"):
@@ -298,7 +300,8 @@ def test_a_capture_is_a_card(capsys):
     assert Replay(path).atr.hex() == "3f2f008059af0102013100000000831e9f0c"
     words = [each.split() for each in SIM]
     assert asked(Replay(path, is_strict=True), *(it for it, _ in words)) == [it for _, it in words]
-    line, found = End(Simulator(OwnCard(Replay(path, is_strict=True))), at_t0), []
+    line = End(Simulator(OwnCard(Replay(path, is_strict=True))), at_t0)
+    found = []
     for each, _ in words:
         found.append(b"".join(line.take_in(bytes([it])) for it in bytes.fromhex(each)))
     # INS before data of either end; a status alone refuses
@@ -309,12 +312,14 @@ def test_a_capture_is_a_card(capsys):
 
 def test_another_card_of_a_capture(replay):
     """It begins with the first command of the first session, and is no part of the other one."""
-    card, verify = replay(*SESSIONS), Command(bytes.fromhex("00200080"), b"", 256)
+    card = replay(*SESSIONS)
+    verify = Command(bytes.fromhex("00200080"), b"", 256)
     assert card.carry_out(verify) == (0x63C2, b"")
     card.reset()
     again = card.fresh()
     assert again.carry_out(verify) == (0x63C2, b"") and card.carry_out(verify) == (0x63C1, b"")
-    card, counts = replay(*COUNTER), Command(bytes.fromhex("80100000"), b"", 1)
+    card = replay(*COUNTER)
+    counts = Command(bytes.fromhex("80100000"), b"", 1)
     both = [(0x9000, b"\x01"), (0x6283, b"\x02")]
     assert [card.carry_out(counts) for _ in both] == both
     again = card.fresh()
@@ -324,7 +329,8 @@ def test_another_card_of_a_capture(replay):
 def seconds_each(replay, count):
     """The time of one command of a session, at best."""
     card = replay(*(one(it, "80100000", "", f"{it:08X}") for it in range(1, count + 1)))
-    command, times = Command(bytes.fromhex("80100000"), b"", 4), []
+    command = Command(bytes.fromhex("80100000"), b"", 4)
+    times = []
     for _ in range(5):
         it = card.fresh()
         begun = time.process_time()

@@ -34,9 +34,12 @@ def with_put(does, *pieces):
     return it
 
 
-OWN, FIRST, LAST = [VALUE[:255], VALUE[255:510], VALUE[510:]], VALUE[:255], VALUE[510:]
+OWN = [VALUE[:255], VALUE[255:510], VALUE[510:]]
+FIRST = VALUE[:255]
+LAST = VALUE[510:]
 OTHERS = [[b"A"], [FIRST], [LAST], [FIRST, *OWN]]  # what it stored is in the last one
-EITHER, PRINTS = "succeeds or reports", "prints what it read"
+EITHER = "succeeds or reports"
+PRINTS = "prints what it read"
 
 
 @pytest.mark.parametrize(
@@ -71,14 +74,18 @@ def test_a_fault_that_did_not_strike(does):
 
 
 def test_what_select_brought_is_no_value():
-    it, choose = FixedRun(fixed.trials()[0], 0), "00A4040007A0000000031010"
+    it = FixedRun(fixed.trials()[0], 0)
+    choose = "00A4040007A0000000031010"
     for tpdu, expected in [(choose, "6a82"), (choose, "610b"),
                            ("00C000000B", "6f098407a00000000310109000")]:
         assert it.whole(bytes.fromhex(tpdu)).hex() == expected
     assert it.judge(1, "8407A0000000031010")[1].startswith("exit status 1; printed no value; ")
 
 
-PIECE, OTHER, GET, SELECT = "10DA00510141", "10DA00510142", "00CA005100", "00A4040000"
+PIECE = "10DA00510141"
+OTHER = "10DA00510142"
+GET = "00CA005100"
+SELECT = "00A4040000"
 
 
 @pytest.mark.parametrize(
@@ -153,7 +160,8 @@ def test_a_file_of_results_is_opened_before_the_run(tmp_path, monkeypatch, capsy
 
 def run(tmp_path, only, mistake="", limit=20):
     """What a terminal makes of one trial, the exit status, and the page."""
-    made, begun = tmp_path / "made.json", time.monotonic()
+    made = tmp_path / "made.json"
+    begun = time.monotonic()
     words = ["--only", only, "--limit", str(limit), "--json", str(made)]
     status = main([*words, "--html", str(tmp_path / "made.html"), "--", *JOB, mistake])
     assert time.monotonic() < begun + 2 * limit + 23  # on a busy machine
@@ -186,7 +194,7 @@ def test_results(tmp_path, capsys, only, mistake, verdict, happened):
     assert (found["verdict"], found["happened"]) == (verdict, happened)
     assert (found["expected"], found["clause"]) == (listed.expected, listed.clause)
     assert status == (verdict not in ("right", "told"))
-    said = f"; said: {found['said']}" * bool(found["said"])
+    said = f"; said: {found['said']}" if found["said"] else ""
     assert (f"\n{verdict:7}  {found['name']}\n         expected: {listed.expected}\n"
             f"         happened: {happened}{said}\n         clause: {listed.clause}\n"
             ) in capsys.readouterr().out
@@ -204,7 +212,7 @@ def test_the_last_line_controls_no_terminal(tmp_path, capsys):
 
 def test_a_fault_that_does_not_strike_is_a_failure(tmp_path, capsys):
     """Unless the list says that a good terminal may miss it, and it succeeded."""
-    status, counts = run(tmp_path, "select with a wrong template", "no template fetched")[1], ""
+    _, status, _ = run(tmp_path, "select with a wrong template", "no template fetched")
     assert status == 0 and "1 right\n* the fault can't strike" in capsys.readouterr().out
     it = Trial("a", "command 9, mute", "reports", "b", may_miss=True)
     for it.may_miss, it.status, is_bad in [(True, 0, False), (True, 1, True), (False, 0, True)]:
@@ -259,7 +267,8 @@ def test_processes_of_a_terminal_end_with_it(tmp_path, monkeypatch, job):
 
 def test_a_line_that_nobody_reads_holds_nothing_up(monkeypatch):
     """A process that is left may keep it open, and the card waits there with its echo."""
-    begun, is_read = time.monotonic(), threading.Event()
+    begun = time.monotonic()
+    is_read = threading.Event()
     monkeypatch.setattr(engine, "serve_pty", lambda run, has_echo, tell, **_: (
         tell("/dev/null"), is_read.wait(60)))
     assert main(["--only", "select refused", "--", "true", "{tty}"]) == 2

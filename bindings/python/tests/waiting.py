@@ -60,8 +60,10 @@ class AtPty:
             stdout=subprocess.PIPE, stderr=subprocess.PIPE,
             # these tests may run where SIGINT is ignored
             preexec_fn=lambda: signal.signal(signal.SIGINT, signal.SIG_DFL), **more)
-        self.name, self.has_echo = self.program.stdout.readline().strip(), "--no-echo" not in words
-        self.line, self.said = -1, ()
+        self.name = self.program.stdout.readline().strip()
+        self.has_echo = "--no-echo" not in words
+        self.line = -1
+        self.said = ()
 
     def open(self, atr="3B00"):
         """Opens the line, on which this answer to reset comes."""

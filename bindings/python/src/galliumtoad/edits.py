@@ -1,6 +1,7 @@
 """Changes of bytes: of the data of a response, of characters at T=0, and of blocks at T=1."""
 
 from functools import reduce
+from typing import Any
 
 NULL = b"\x60"
 ALL_BITS = range(8)
@@ -52,6 +53,17 @@ def dropped(sent: bytes, at: int) -> bytes:
     return sent[: at - 1] + sent[at:]
 
 
+def replaced(values: tuple[Any, ...], at: int, new: object) -> tuple[Any, ...]:
+    """Values with another one at this place, if there is such a place. The first place is 1.
+
+    >>> replaced((0, 0), 2, 5), replaced((0, 0), 3, 5)
+    ((0, 5), (0, 0))
+    """
+    if at > len(values):
+        return values
+    return (*values[: at - 1], new, *values[at:])
+
+
 def with_procedure(sent: bytes, new: bytes) -> bytes:
     """Characters with another procedure byte first. A status alone has none, and keeps its
     bytes."""
@@ -66,7 +78,9 @@ def one_by_one(sent: bytes, count: int) -> bytes:
     >>> one_by_one(bytes.fromhex("CA4142439000"), 2).hex()
     '35413542ca439000'
     """
-    ins, data, status = sent[:1], sent[1:-2], sent[-2:]
+    ins = sent[:1]
+    data = sent[1:-2]
+    status = sent[-2:]
     if not data:
         return sent
     alone = b"".join(flipped(ins, *ALL_BITS) + bytes([it]) for it in data[:count])
@@ -81,7 +95,9 @@ def after_nulls(sent: bytes) -> bytes:
     >>> after_nulls(bytes.fromhex("CA41429000")).hex()
     '603541603542609000'
     """
-    ins, data, status = sent[:1], sent[1:-2], sent[-2:]
+    ins = sent[:1]
+    data = sent[1:-2]
+    status = sent[-2:]
     if not data and ins != status[:1]:
         return sent
     alone = b"".join(NULL + flipped(ins, *ALL_BITS) + bytes([it]) for it in data)

@@ -5,16 +5,26 @@ import re
 from typing import Any, Callable, Iterable, NamedTuple, Optional
 
 from .edits import (NULL, after_nulls, block, dropped, flipped, inserted, one_by_one, other_value,
-                    with_other, with_other_number, with_procedure, with_wrong_lrc, wrong_tag)
+                    replaced, with_other, with_other_number, with_procedure, with_wrong_lrc,
+                    wrong_tag)
 from .mistakes import CONTROLS, Mistake
 
 # Where a fault can happen.
-ANYWHERE, LINE, T0, T1, ECHO = "anywhere", "a line", "a line at T=0", "a line at T=1", "an echo"
+ANYWHERE = "anywhere"
+LINE = "a line"
+T0 = "a line at T=0"
+T1 = "a line at T=1"
+ECHO = "an echo"
 MARKS = "a line with marks"
 # What happens: a command or TPDU, a block of the card, a reset, a PPS request.
-COMMAND, BLOCK, RESET, PPS = "a command", "a block", "a reset", "a PPS request"
+COMMAND = "a command"
+BLOCK = "a block"
+RESET = "a reset"
+PPS = "a PPS request"
 EVENT_PLACES = {COMMAND: ANYWHERE, BLOCK: T1, RESET: LINE, PPS: LINE}
-GET_RESPONSE, OK, MORE = b"\xC0", b"\x90\x00", b"\x61\x10"
+GET_RESPONSE = b"\xC0"
+OK = b"\x90\x00"
+MORE = b"\x61\x10"
 DEFAULT_BAUD = 9600
 
 
@@ -76,7 +86,8 @@ NOT_BYTES = (*TIMES, *PARITIES, LEAVES, "early")
 SILENT = ("mute", "power off")
 REQUESTS = ("wtx BYTE", "wtx BYTE PLACE times", "ifs BYTE", "abort")
 # Of a TPDU at T=0: what changes its first procedure byte, and what only the end of it.
-FIRST, LAST = ("procedure XX", "nulls N"), ("sw1 alone", "then HEX")
+FIRST = ("procedure XX", "nulls N")
+LAST = ("sw1 alone", "then HEX")
 ALONE = ("complement", "complement PLACE", "null each")
 # Where a fault can happen, and what it makes of what the card sends, or True for anything else.
 KINDS: dict[str, tuple[str, Callable[..., Any]]] = {
@@ -94,16 +105,13 @@ KINDS: dict[str, tuple[str, Callable[..., Any]]] = {
     "byte PLACE flip": (LINE, lambda sent, at: flipped(sent, 8 * at - 8)),
     "byte PLACE drop": (LINE, dropped),
     "byte PLACE insert XX": (LINE, inserted),
-    "byte PLACE late TIME": (LINE, lambda times, at, time: (
-        (*times[: at - 1], time, *times[at:]) if at <= len(times) else times)),
+    "byte PLACE late TIME": (LINE, replaced),
     "slow TIME": (LINE, lambda times, time: (*times[:1], *[time] * len(times[1:]))),
     LEAVES: (LINE, lambda size, at: min(size, at - 1)),
     "then HEX": (LINE, lambda sent, new: sent + new),
     "early": (LINE, lambda _: True),
-    "byte PLACE parity": (MARKS, lambda wrong, at: (
-        (*wrong[: at - 1], -1, *wrong[at:]) if at <= len(wrong) else wrong)),
-    "byte PLACE parity PLACE": (MARKS, lambda wrong, at, count: (
-        (*wrong[: at - 1], count, *wrong[at:]) if at <= len(wrong) else wrong)),
+    "byte PLACE parity": (MARKS, lambda wrong, at: replaced(wrong, at, -1)),
+    "byte PLACE parity PLACE": (MARKS, replaced),
     SIGNAL: (MARKS, lambda count, more: count + more),
     "early status": (T0, lambda _: True),
     "procedure XX": (T0, with_procedure),
@@ -212,11 +220,13 @@ class Faults:
         self.tell = tell
         self.since = since
         self.chance = random.Random(seed).random
-        self.count = self.part = 0  # of commands, and of what belongs to one
-        self.header = self.ins = b""
+        self.count = 0  # of commands
+        self.part = 0  # of what belongs to a command
+        self.header = b""
+        self.ins = b""
         self.was_6c = False
         self.resets = 0
-        self.blocks = self.block = self.block_of = 0  # since a reset, of a command, its number
+        self.begin_blocks()
         self.due = list[Fault]()  # those of the command
         self.at_once = list[Fault]()  # those of another event
         self.struck = list[str]()
@@ -249,11 +259,12 @@ class Faults:
         if self.is_before(header):
             self.due = []
             return None
-        self.since, self.ins, le = b"", header[1:2], sum(header[4:5])
+        self.since = b""
+        self.ins = header[1:2]
+        le = sum(header[4:5])
         self.part += 1
         if not self.is_same(header):
-            self.count, self.part, self.header = self.count + 1, 1, header[:4]
-            self.due, self.struck = [], []
+            self.begin_command(header)
         self.due = [it for it in self.due if it.kind in DATA or it.place == LINE]
         self.due += self.chosen(COMMAND)
         if answer := self.edited(b"", "forget", "refuse SW"):
@@ -266,11 +277,26 @@ class Faults:
             reset()
         return None
 
+    def begin_command(self, header: bytes) -> None:
+        """Begins another command."""
+        self.count += 1
+        self.part = 1
+        self.header = header[:4]
+        self.due = []
+        self.struck = []
+
+    def begin_blocks(self) -> None:
+        """Begins to count blocks."""
+        self.blocks = 0  # since the reset
+        self.block = 0  # of the command
+        self.block_of = 0  # the number of that command
+
     def begin_reset(self) -> None:
         """Chooses the faults of the next answer to reset."""
         self.resets += 1
-        self.blocks = self.block = self.block_of = 0
-        self.due, self.struck = [], []
+        self.begin_blocks()
+        self.due = []
+        self.struck = []
         self.at_once = self.chosen(RESET)
 
     def begin_pps(self) -> None:
@@ -344,7 +370,8 @@ class Faults:
 
     def changed(self, answer: bytes) -> bytes:
         """The answer with the faults in it. `pauses` gets the time before it. Raises `Gone`."""
-        data, status = answer[:-2], answer[-2:]
+        data = answer[:-2]
+        status = answer[-2:]
         self.was_6c = status[:1] == b"\x6C"
         if data or status[0] not in (0x61, 0x6C):
             data = self.edited(data, *DATA)

@@ -30,7 +30,9 @@ def mistakes(what: str, *kinds: type[Exception]) -> Iterator[None]:
 
 def number(text: str) -> Any:
     """Reads a number of an option, of the digits 0 to 9 and a point. Raises `ValueError`."""
-    return (float if "." in text else int)(text if re.fullmatch(r"[0-9]+(\.[0-9]+)?", text) else "")
+    if not re.fullmatch(r"[0-9]+(\.[0-9]+)?", text):
+        raise ValueError(f"not a number: {text}")
+    return float(text) if "." in text else int(text)
 
 
 def program(main: Callable[[Any], int]) -> Callable[..., int]:
@@ -38,7 +40,8 @@ def program(main: Callable[[Any], int]) -> Callable[..., int]:
     stream can't be written. A closed one is as /dev/null. No option has an empty value: some
     versions of argparse make a list of --OPTION=--."""
     def run(words: Optional[list[str]] = None) -> int:
-        sys.stdout, sys.stderr = (it or open(os.devnull, "w") for it in (sys.stdout, sys.stderr))
+        sys.stdout = sys.stdout or open(os.devnull, "w")
+        sys.stderr = sys.stderr or open(os.devnull, "w")
         getattr(sys.stdout, "reconfigure", dict)(errors="backslashreplace")  # for names of files
         words = sys.argv[1:] if words is None else words
         try:

@@ -342,7 +342,7 @@ def main(words: Optional[list[str]] = None) -> int:
     except (ValueError, OSError, KeyboardInterrupt) as error:
         lines = (str(error) or "interrupted").split("\n")
     if (more := len(lines) - _SHOWN) > 0:
-        more_than = "more than " * (len(lines) > MOST)
+        more_than = "more than " if len(lines) > MOST else ""
         lines[_SHOWN:] = [f"and {more_than}{more} more mistakes"]
     text = "\n".join(f"galliumtoad.batch: {line}" for line in lines)
     print(text.translate(CONTROLS), file=sys.stderr)

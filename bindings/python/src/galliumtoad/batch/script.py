@@ -151,13 +151,15 @@ class Script:
             words = [it for it in line.split(" ") if it]
             faults = self._faults(number, words) if words and line[0] != "#" else ()
             self.wrong += [f"{path}:{number}: {it}" for it in faults]
-        self.wrong += [f"{path} has no operation"] * (not self.lines and not self.wrong)
+        if not self.lines and not self.wrong:
+            self.wrong.append(f"{path} has no operation")
 
     def _faults(self, number: int, words: list[str]) -> Iterator[str]:
         """Yields the mistakes of a line, and keeps its words if there are as many as it takes."""
         if (first := words[0]) == "column":
             if found := _FORMAT.fullmatch(" ".join(words)):
-                self.formats += [(found[1], found[2])] * bool(found[2])
+                if found[2]:
+                    self.formats.append((found[1], found[2]))
                 yield from self._unknown(found[1])
             else:
                 what = "hex, digits, text or date, with its size"
@@ -205,7 +207,8 @@ class Script:
                 try:
                     made.append(meaning(reads, word, row) if columns else self._fixed(reads, word))
                 except (KeyError, ValueError) as error:
-                    named = f"column{'s' * (len(columns) > 1)} {', '.join(map(repr, columns))}"
+                    noun = "columns" if len(columns) > 1 else "column"
+                    named = f"{noun} {', '.join(map(repr, columns))}"
                     is_known = isinstance(error, KeyError) or faults.keys() & columns
                     if columns and not is_known:  # without columns it is the script's
                         wrong.append(f"{where}, {named}: {error}")
@@ -258,8 +261,10 @@ class Recorder:
         return answer
 
     def _add(self, sign: str, shown: bytes, hidden: int) -> None:
-        self.lines += [f"{sign} {shown.hex().upper()}"] * bool(shown)
-        self.lines += [f"# {sign} ** {hidden} bytes"] * (hidden > 0)
+        if shown:
+            self.lines.append(f"{sign} {shown.hex().upper()}")
+        if hidden > 0:
+            self.lines.append(f"# {sign} ** {hidden} bytes")
 
 
 def sentence(error: BaseException) -> str:

@@ -15,7 +15,8 @@ from .applications import STATUS
 
 PATIENCE = 10.0  # seconds for a line of a program
 # What a program answers to a header, and to a command: data if any, and SW.
-WAY, RESPONSE = "(to|from)-card", f"(?:((?:[0-9A-F]{{2}}){{1,4096}}) )?({STATUS})"
+WAY = "(to|from)-card"
+RESPONSE = f"(?:((?:[0-9A-F]{{2}}){{1,4096}}) )?({STATUS})"
 
 
 class Program(Application):
@@ -47,19 +48,32 @@ class Program(Application):
 
     def ask(self, line: str, form: str = "") -> Sequence[str]:
         """Sends a line. Returns the parts of its answer, which has this form, if it has one."""
-        out, said, until = self.program.stdout, b"", time.monotonic() + PATIENCE
         try:
-            if select.select([out], [], [], 0)[0]:
-                said = out.read(100)
-                raise OSError(f"it had said {said!r}" if said else "it has ended")
-            self.program.stdin.write(f"{line}\n".encode())
-            while form and said[-1:] != b"\n":
-                if not (byte := next_byte(out.fileno(), until)):
-                    raise OSError(f"it said {said[:100]!r}, and no more in {PATIENCE:.0f} s")
-                said += byte
+            self.send(line)
+            said = self.read_line() if form else b""
             if found := re.fullmatch(form, said.decode("ascii", "replace").strip(), re.I):
                 return found.groups()
             raise OSError(f"it said {said!r}")
         except OSError as why:
             self.fault = self.fault or Mistake(f"the program at the line '{line}': {why}")
             raise self.fault from None
+
+    def send(self, line: str) -> None:
+        """Sends a line to a program that waits for one. Raises `OSError`."""
+        out = self.program.stdout
+        can_be_read, _, _ = select.select([out], [], [], 0)
+        if can_be_read:
+            said = out.read(100)
+            raise OSError(f"it had said {said!r}" if said else "it has ended")
+        self.program.stdin.write(f"{line}\n".encode())
+
+    def read_line(self) -> bytes:
+        """The program's next line. Raises `OSError`."""
+        until = time.monotonic() + PATIENCE
+        said = b""
+        while said[-1:] != b"\n":
+            byte = next_byte(self.program.stdout.fileno(), until)
+            if not byte:
+                raise OSError(f"it said {said[:100]!r}, and no more in {PATIENCE:.0f} s")
+            said += byte
+        return said

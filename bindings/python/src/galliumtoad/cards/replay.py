@@ -12,7 +12,8 @@ from ..mistakes import Mistake, mistakes
 from .captures import explained
 from .programs import RESPONSE
 
-BYTE, BYTES = "[0-9A-F]{2}", "(?:[0-9A-F]{2})*"
+BYTE = "[0-9A-F]{2}"
+BYTES = "(?:[0-9A-F]{2})*"
 CARD_ATR = re.compile("Card ATR: ?((?: ?[0-9A-F]{2})+)")  # as pcscd logs it
 MOST_RECEIVED = 2 * (4096 - 256)  # digits of a response
 PARTS = {**dict.fromkeys(("cla", "ins", "p1", "p2"), BYTE), "sent": BYTES, "received": BYTES,
@@ -50,8 +51,12 @@ class Replay(Application):
 
     def __init__(self, path: str, unknown: int = 0x6D00, is_strict: bool = False,
                  ask: Optional[Callable[[str], tuple[int, bytes]]] = None) -> None:
-        self.path, self.unknown, self.is_strict, self.ask = path, unknown, is_strict, ask
-        self.atr, self.left_out = b"", list[str]()
+        self.path = path
+        self.unknown = unknown
+        self.is_strict = is_strict
+        self.ask = ask
+        self.atr = b""
+        self.left_out = list[str]()
         found = [list[dict[str, Any]]()]
         for at, text in enumerate(explained(path), 1):
             with mistakes(f"{path}: line {at}: not of trace_explain --json"):
@@ -116,7 +121,8 @@ class Replay(Application):
         return header.hex().upper() in self.sessions[self.place].headers
 
     def carry_out(self, command: Command) -> tuple[int, bytes]:
-        sent, session = (command.header + command.data).hex().upper(), self.sessions[self.place]
+        sent = (command.header + command.data).hex().upper()
+        session = self.sessions[self.place]
         if self.is_strict:
             self.compare(sent, session.commands[self.count : self.count + 1])
         times = self.times[sent]
@@ -126,7 +132,8 @@ class Replay(Application):
         if not known:
             return self.ask(sent) if self.ask else (self.unknown, b"")
         it = known[min(times, len(known) - 1)]
-        status, data = int(it["status"], 16), bytes.fromhex(it["received"])
+        status = int(it["status"], 16)
+        data = bytes.fromhex(it["received"])
         if status >> 8 in (0x61, 0x6C):
             return self.unknown, data + bytes(status & 0xFF or 256)
         return status, data
@@ -145,7 +152,9 @@ class Replay(Application):
     def instead(self, command: bytes) -> Optional[bytes]:
         """Answers in place of the card, or returns None. It answers a GET RESPONSE of the capture,
         as after 9FXX of a SIM, data after a header without any there, and P3 00 after one with."""
-        header, p3, after = command[:4], command[4:5], command[5:]
+        header = command[:4]
+        p3 = command[4:5]
+        after = command[5:]
         if header[1:2] == b"\xC0" and not after:
             is_odd = header.hex().upper() in self.sessions[self.place].by_bytes
         else:

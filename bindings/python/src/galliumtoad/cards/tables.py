@@ -39,7 +39,8 @@ class Table:
         """Takes an object of the last application, in place of an earlier one with this tag."""
         if tag[:1] <= b"\0" or not self.applications:
             raise ValueError("not a line of a table")
-        aid, number = list(self.applications)[-1], int.from_bytes(tag, "big")
+        aid = list(self.applications)[-1]
+        number = int.from_bytes(tag, "big")
         self.applications[aid][number] = value
         if is_locked:
             self.locked.add((aid, number))

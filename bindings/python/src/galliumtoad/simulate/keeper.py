@@ -48,7 +48,8 @@ class Keeper:
             self.way.close()
             os.kill(self.number, signal.SIGKILL)
             os.waitpid(self.number, 0)
-        self.number, self.line.keeper = 0, None
+        self.number = 0
+        self.line.keeper = None
 
     @mistakes(HAS_ENDED, EOFError, OSError)
     def __enter__(self) -> None:
@@ -76,7 +77,8 @@ class Keeper:
 
     def run(self, way: Connection) -> None:
         """What the process does, until the simulation ends."""
-        other, line = select.poll(), self.line
+        line = self.line
+        other = select.poll()
         other.register(way.fileno(), 0)
         line.ends = lambda: bool(other.poll(0))
         signal.signal(signal.SIGINT, signal.SIG_IGN)  # which the application may take
@@ -88,7 +90,9 @@ class Keeper:
               ) -> tuple[list[tuple[str, str]], bytes, bool]:
         """Asks for time until the application has ended. Returns the dialogue, a request of the
         terminal that waits for its response, and whether the terminal has left."""
-        told, line, is_left = list[tuple[str, str]](), self.line, False
+        line = self.line
+        told = list[tuple[str, str]]()
+        is_left = False
         line.tell = lambda text, sign="": told.append((text, sign))
         line.ahead = b""
         wait, later = waits

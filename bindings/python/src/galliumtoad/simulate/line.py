@@ -20,7 +20,8 @@ DEFAULT_RATE = 0x11  # the code of Fi 372 and Di 1
 STOPPED = 0.2  # seconds that it waits longer than CWT
 MULTIPLE = 8  # how many times BWT it asks for at T=1
 TURNED = bytes(int(f"{byte:08b}"[::-1], 2) ^ 0xFF for byte in range(256))  # inverse convention
-HEADER, OF_DATA = "wrong echo", "wrong echo of data"
+HEADER = "wrong echo"
+OF_DATA = "wrong echo of data"
 
 
 def is_spoken(says: Atr) -> bool:
@@ -40,8 +41,10 @@ class Line:
             self.says = Atr(of.atr)
             if not is_spoken(self.says):
                 raise ValueError(of.atr.hex().upper())
-        self.of, self.port = of, port
-        self.faults, self.watch = of.faults, of.watch
+        self.of = of
+        self.port = port
+        self.faults = of.faults
+        self.watch = of.watch
         self.has_echo = has_echo
         self.echo = HEADER  # the fault of the next one
         self.heard = b""  # the last character, whose echo is not sent yet
@@ -109,7 +112,8 @@ class Line:
 
     def take(self, size: Callable[[bytes], int], seconds: float = FOREVER) -> bytes:
         """Takes as many characters as their `size`, or until none follows in this time."""
-        data, self.ahead = self.ahead, b""
+        data = self.ahead
+        self.ahead = b""
         while len(data) < size(data) and (byte := self.read(seconds if data else FOREVER)):
             data += byte
         return data
@@ -124,7 +128,8 @@ class Line:
             self.port.write_wrong(self.heard.translate(self.turned))
             self.heard = b""
             self.read()
-        echo, self.heard = self.faults.edited(self.heard, self.echo), b""
+        echo = self.faults.edited(self.heard, self.echo)
+        self.heard = b""
         self.port.write(echo.translate(self.turned))
 
     def send(self, data: bytes, begun: int = 0) -> None:

@@ -18,7 +18,8 @@ from ..waits import LOOKS_EVERY
 SIGNALS = {"cts": termios.TIOCM_CTS, "dsr": termios.TIOCM_DSR, "dcd": termios.TIOCM_CAR}
 MARK = b"\xFF"  # as a driver marks characters: FF 00 before one with wrong parity, FF FF for FF
 # Linux: settings with any rate, as on all its processors but a few old ones.
-GET_SETTINGS, PUT_SETTINGS = 0x802C542A, 0x402C542B
+GET_SETTINGS = 0x802C542A
+PUT_SETTINGS = 0x402C542B
 SETTINGS = "4I20s2I"
 ANY_RATE, RATES = 0o10000, 0o10017  # of the third number
 
@@ -67,7 +68,8 @@ class Pseudo(Port):
     that has set. With `has_marks` the terminal reads it as a tty that marks wrong parity."""
 
     def __init__(self, baud: int, has_marks: bool = False) -> None:
-        self.baud, self.has_marks = baud, has_marks
+        self.baud = baud
+        self.has_marks = has_marks
         self.fd, theirs = pty.openpty()
         self.closed = select.poll()
         self.closed.register(self.fd, 0)

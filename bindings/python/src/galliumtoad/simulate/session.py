@@ -27,7 +27,8 @@ class Session:
     """What a card does from a reset on."""
 
     def __init__(self, line: Line) -> None:
-        self.line, self.faults = line, line.faults
+        self.line = line
+        self.faults = line.faults
 
     def prepare(self) -> None:
         """Chooses the faults of the next reset, before it happens."""

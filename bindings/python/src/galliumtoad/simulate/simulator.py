@@ -11,7 +11,8 @@ from ..faults import OK, Faults
 from ..mistakes import mistakes
 from .watch import Watch
 
-NO_INS, NO_FORM = b"\x6D\x00", b"\x67\x00"
+NO_INS = b"\x6D\x00"
+NO_FORM = b"\x67\x00"
 TAKE_DATA = b"\xA4\xDA"  # INS of the card of a table: SELECT and PUT DATA
 
 
@@ -35,7 +36,8 @@ class Simulator(contextlib.ExitStack):
                  faults: Optional[Faults] = None, shows: bool = False) -> None:
         super().__init__()
         self.callback(card.close)
-        self.card, self.atr = card, atr
+        self.card = card
+        self.atr = atr
         self.faults = faults or Faults()
         self.faults.tell = self.tell
         self.shows = shows

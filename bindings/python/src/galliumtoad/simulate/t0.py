@@ -10,7 +10,8 @@ class T0:
     """Takes TPDUs, and answers them with the faults that strike."""
 
     def __init__(self, line: Line) -> None:
-        self.line, self.faults = line, line.faults
+        self.line = line
+        self.faults = line.faults
         self.header = b""
         self.begun = b""  # what the card has sent in this TPDU before its end
         self.has_nulls = False  # whether NULL comes before each procedure byte
@@ -26,7 +27,8 @@ class T0:
         line = self.line
         line.echo = HEADER
         self.has_nulls = False
-        self.header, self.begun = line.take(lambda it: 5), b""
+        self.header = line.take(lambda it: 5)
+        self.begun = b""
         answer = line.of.whole(self.header, self.more)
         answer = self.before() + answer
         if len(answer) > 2 and line.of.came == self.header:
@@ -36,7 +38,8 @@ class T0:
 
     def more(self) -> bytes:
         """Takes the data of a TPDU, after a procedure byte, or some of them alone."""
-        size, data = self.header[4], b""
+        size = self.header[4]
+        data = b""
         for _ in range(self.count_alone(size)):
             self.line.send(self.before() + flipped(self.header[1:2], *ALL_BITS))
             data += self.take(1)

@@ -60,7 +60,8 @@ class T1:
     short command."""
 
     def __init__(self, line: Line) -> None:
-        self.line, self.faults = line, line.faults
+        self.line = line
+        self.faults = line.faults
         self.command = b""  # the parts that it has acknowledged
         self.part = b""  # of the block that it has taken
         self.response = b""  # what is left of it
@@ -81,7 +82,8 @@ class T1:
         if came[2:3] > bytes([self.ifsc]):
             came = b""  # the card has no room for it
         self.part = came[3:-1][:FIELD]
-        is_part, is_last = self.is_block(came, IS_PART), self.is_block(came, 0)
+        is_part = self.is_block(came, IS_PART)
+        is_last = self.is_block(came, 0)
         self.begin_block(came, is_part or is_last)
         if (is_part or is_last) and (asks := self.faults.edited_at_once(b"", ASKS)):
             self.line.send(block(0, asks[0] | came[1] >> 2 & NUMBER_ASKED, b""))
@@ -117,7 +119,8 @@ class T1:
     def carry_out(self) -> None:
         """Carries the command out, and sends the requests that come before its response."""
         self.response = self.line.of.whole(self.command + self.part)
-        self.command = self.last = b""
+        self.command = b""
+        self.last = b""
         for it in self.faults.edited([], *REQUESTS):
             self.ask(it)
 
@@ -130,7 +133,8 @@ class T1:
         """The card's block in place of that of the library's end. The first one of a response has
         the faults of its command."""
         if sent[1] in (ABORT | RESPONSE, RESYNCH | RESPONSE):
-            self.command, self.number = b"", -1
+            self.command = b""
+            self.number = -1
         if sent[1] >= R_BLOCK:
             return sent
         if sent[1:2] == self.last[1:2]:

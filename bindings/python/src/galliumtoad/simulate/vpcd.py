@@ -80,7 +80,8 @@ class Reader:
     """A reader of vpcd. It prints what it waits for, once."""
 
     def __init__(self, of: Simulator, address: str) -> None:
-        self.of, self.address = of, address
+        self.of = of
+        self.address = address
         self.said = ""
 
     def say(self, now: str) -> None:

@@ -37,7 +37,8 @@ class AnyRun(Run):
     def note_asked(self, card: Application) -> None:
         """Lets an application note what it is asked. The fault `twice` asks once more, but then
         the command has been taken."""
-        own, its_reset = card.carry_out, card.reset
+        own = card.carry_out
+        its_reset = card.reset
 
         def carry_out(command: Command) -> object:
             self.asked.append(command.header + bytes([len(command.data)]) + command.data)
@@ -61,7 +62,8 @@ class AnyRun(Run):
 
     def whole(self, data: bytes, more: Optional[Callable[[], bytes]] = None) -> bytes:
         self.asked.clear()
-        self.came, answer = data, b""
+        self.came = data
+        answer = b""
         try:
             answer = super().whole(data, more)
             return answer
@@ -70,7 +72,8 @@ class AnyRun(Run):
 
     def see(self, output: str) -> str:
         """A success is true if the output is that without a fault."""
-        it, usual = self.trial, self.usual
+        it = self.trial
+        usual = self.usual
         it.dialogue = self.dialogue.text()
         if not usual:
             it.is_true = True
@@ -102,7 +105,9 @@ class AnyJob(Job):
     usual: Optional[Usual] = None
 
     def __init__(self, card: Union[Replay, str], is_line: bool, protocol: int) -> None:
-        self.card, self.is_line, self.protocol = card, is_line, protocol
+        self.card = card
+        self.is_line = is_line
+        self.protocol = protocol
         self.has_echo = True
 
     def new_card(self) -> Application:

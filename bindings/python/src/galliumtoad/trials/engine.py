@@ -69,7 +69,8 @@ class Service(threading.Thread):
 
     def __init__(self, run: Run, terminal: Terminal) -> None:
         super().__init__(daemon=True)
-        self.card, self.terminal = run, terminal
+        self.card = run
+        self.terminal = terminal
         self.line = None if terminal.is_line else connected(terminal.vpcd)
         self.ready = SimpleQueue[Union[str, Exception]]()
         self.error: Optional[Exception] = None

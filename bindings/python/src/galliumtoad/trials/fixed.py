@@ -14,7 +14,9 @@ from .engine import Job, Terminal, tried
 from .run import Run, counted
 from .trial import PRINTS, Trial
 
-AID, OTHER, TAG = bytes.fromhex("A0000000031010"), bytes.fromhex("A0000000041010"), 0x51
+AID = bytes.fromhex("A0000000031010")
+OTHER = bytes.fromhex("A0000000041010")
+TAG = 0x51
 VALUE = bytes(it % 251 for it in range(600))  # so that no two pieces of it are equal
 SELECT = bytes([0x00, 0xA4, 0x04, 0x00, len(AID)]) + AID
 JOB = bytes.fromhex("A4DADADACA")  # INS of its commands
@@ -31,6 +33,13 @@ def trials() -> list[Trial]:
     found = re.findall(r"^([^#\n].*?)(, may miss)?\n(.+)\n(.+)\n(.+)$", text, re.M)
     return [Trial(name, faults, expected, clause, bool(misses))
             for name, misses, faults, expected, clause in found]
+
+
+def named(is_own: bool, is_other: bool) -> str:
+    """The words for a value that is the job's, or another one."""
+    if is_own:
+        return "the value"
+    return "another value" if is_other else "no value"
 
 
 class FixedRun(Run):
@@ -65,7 +74,8 @@ class FixedRun(Run):
     def see(self, output: str) -> str:
         """A success counts only if the card holds the value and the output contains it, or if the
         output contains what the card has sent in its place."""
-        printed, own = re.sub(r"[^0-9A-F]", "", output.upper()), WORDS["value"]
+        printed = re.sub(r"[^0-9A-F]", "", output.upper())
+        own = WORDS["value"]
         held, sent = (it.hex().upper() for it in self.values())
         rest = printed.replace(sent, "-") if own in sent else printed
         has_read = bool(sent) and sent in printed and own not in rest
@@ -73,9 +83,8 @@ class FixedRun(Run):
         if self.trial.expected.startswith(PRINTS):
             self.trial.is_true = has_read
         self.trial.is_twice = any(count > 1 for count in counted(self.commands).values())
-        what = "what it read" if has_read else "the value" if own in printed else "no value"
-        on_card = "the value" if held == own else "another value" if held else "no value"
-        return f"printed {what}; the card holds {on_card}"
+        what = "what it read" if has_read else named(own in printed, False)
+        return f"printed {what}; the card holds {named(held == own, bool(held))}"
 
 
 class FixedJob(Job):
@@ -83,7 +92,9 @@ class FixedJob(Job):
     name."""
 
     def __init__(self, is_line: bool, protocol: int, only: str = "") -> None:
-        self.is_line, self.protocol, self.only = is_line, protocol, only
+        self.is_line = is_line
+        self.protocol = protocol
+        self.only = only
         self.has_echo = True
 
     def listed(self) -> list[Trial]:
@@ -125,7 +136,8 @@ class LineJob(FixedJob):
 
     def __init__(self, protocol: int, only: str, slack: float, has_marks: bool) -> None:
         super().__init__(True, protocol, only)
-        self.slack, self.has_marks = slack, has_marks
+        self.slack = slack
+        self.has_marks = has_marks
 
     def listed(self) -> list[Trial]:
         return lines.trials(self.slack)

@@ -20,7 +20,7 @@ class Interrupts:
         self.has_come = True
 
     def end_if_one_came(self) -> None:
-        """Raises the interrupt that has come."""
+        """Raises the interrupt that waits."""
         if self.has_come:
             self.has_come = False
             raise KeyboardInterrupt

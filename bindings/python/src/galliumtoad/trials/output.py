@@ -15,12 +15,23 @@ def pattern(one: str, other: str) -> "re.Pattern[str]":
     >>> pattern("at 12:30 OK", "at 12:31 OK").pattern.replace(chr(92), "")
     'at 12:w+ OK'
     """
-    words, others = WORDS.findall(one), WORDS.findall(other)
-    is_word = [bool(re.match(r"\w", it)) for it in words]
-    if is_word != [bool(re.match(r"\w", it)) for it in others]:
+    words = WORDS.findall(one)
+    others = WORDS.findall(other)
+    if list(map(is_word, words)) != list(map(is_word, others)):
         return re.compile(".*")
-    return re.compile("".join(re.escape(a) if a == b else r"\w+" if is_any else "."
-                              for a, b, is_any in zip(words, others, is_word)))
+    return re.compile("".join(map(part_of_pattern, words, others)))
+
+
+def is_word(text: str) -> bool:
+    """Whether a part of a line is a word, and not a sign between words."""
+    return re.match(r"\w", text) is not None
+
+
+def part_of_pattern(word: str, other: str) -> str:
+    """Fits both of two words, or of two signs."""
+    if word == other:
+        return re.escape(word)
+    return r"\w+" if is_word(word) else "."
 
 
 class Output:
@@ -36,16 +47,23 @@ class Output:
         self.left_out = list[str]()
         # Any number of lines may be between two of these parts.
         self.parts: list[Lines] = [[]]
-        one, other = first.splitlines(), second.splitlines()
+        one = first.splitlines()
+        other = second.splitlines()
         match = difflib.SequenceMatcher(None, one, other, autojunk=False)
         for kind, start, end, its_start, its_end in match.get_opcodes():
-            mine, its = one[start:end], other[its_start:its_end]
+            mine = one[start:end]
+            its = other[its_start:its_end]
             if kind != "equal":
-                self.left_out += [f"{a!r}, {b!r}" for a, b in zip_longest(mine, its, fillvalue="")]
+                self.leave_out(mine, its)
             if len(mine) == len(its):
                 self.parts[-1] += map(pattern, mine, its)
             else:
                 self.parts.append([])
+
+    def leave_out(self, lines: list[str], others: list[str]) -> None:
+        """Lists lines that differ."""
+        for line, other in zip_longest(lines, others, fillvalue=""):
+            self.left_out.append(f"{line!r}, {other!r}")
 
     def difference(self, output: str) -> str:
         """How an output differs, or nothing."""

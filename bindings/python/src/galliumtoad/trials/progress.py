@@ -19,9 +19,12 @@ class Progress:
 
     def __init__(self, total: int, tell: Callable[[str], object],
                  clock: Callable[[], float] = time.monotonic) -> None:
-        self.total, self.tell, self.clock = total, tell, clock
+        self.total = total
+        self.tell = tell
+        self.clock = clock
         self.done = 0
-        self.begun = self.told = clock()
+        self.begun = clock()
+        self.told = self.begun
 
     def step(self) -> None:
         """Takes one trial that is done."""

@@ -34,7 +34,8 @@ class Row:
 
     def is_for(self, step: Step) -> bool:
         """Whether the fault is for a command, and changes anything there."""
-        kind, values = self.fault.kind, self.fault.values
+        kind = self.fault.kind
+        values = self.fault.values
         if kind in DATA and KINDS[kind][1](step.data, *values) == step.data:
             return False
         if kind in STATUSES and values[0] == step.status:
@@ -59,7 +60,8 @@ class Row:
         place = f"command {step.number}"
         parts = len(step.answers)
         when = f"{place} part {parts}" if self.fault.kind == STATUS and parts > 1 else place
-        status, expected = step.status.hex().upper(), self.expected
+        status = step.status.hex().upper()
+        expected = self.expected
         if self.fault.kind in STATUSES and not status.startswith(SUCCESS):
             expected = f"{MAY_PASS}, as {status} does without a fault"
         return Trial(f"{place} {self.words}", f"{when}, {self.words}", expected, self.clause,

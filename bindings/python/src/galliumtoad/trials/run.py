@@ -15,7 +15,8 @@ SELECT = b"\xA4"
 # INS of commands that only read: GET CHALLENGE, SEARCH, READ, GET RESPONSE, GET DATA.
 READS = bytes.fromhex("84 A0A1A2 B0B1B2B3 C0 CACB")
 # GENERATE ASYMMETRIC KEY PAIR only reads the public key of a pair if this bit of P1 is set.
-GENERATE_KEYS, OF_KEY_THERE = 0x47, 1
+GENERATE_KEYS = 0x47
+OF_KEY_THERE = 1
 # The same of CLA whose other INS may mean anything: GET DATA and STATUS of GlobalPlatform, EMV and
 # a UICC; SEEK, READ, GET RESPONSE and STATUS of a SIM.
 PROPRIETARY = 0x80
@@ -30,7 +31,8 @@ def only_reads(command: bytes) -> bool:
     >>> only_reads(bytes.fromhex("00478100")), only_reads(bytes.fromhex("00478000"))
     (True, False)
     """
-    cla, ins = command[0], command[1]
+    cla = command[0]
+    ins = command[1]
     if ins == GENERATE_KEYS and command[2] & OF_KEY_THERE:
         return True
     return ins in (READS if cla < PROPRIETARY else OTHER_READS.get(cla, b""))
@@ -48,7 +50,8 @@ def without_lengths(command: bytes) -> bytes:
 def counted(commands: Iterable[bytes]) -> Counter[bytes]:
     """How often a card carried out each command, at most, with no reset or SELECT between. Those
     that only read are left out."""
-    most, since = Counter[bytes](), Counter[bytes]()
+    most = Counter[bytes]()
+    since = Counter[bytes]()
     for command in commands:
         if command == RESET or command[1:2] == SELECT:
             since.clear()

@@ -3,7 +3,7 @@
 from collections import Counter
 from typing import Iterable
 
-from .dialogue import Dialogue
+from .dialogue import Dialogue, Step
 from .output import Output
 from .run import counted
 
@@ -25,24 +25,40 @@ class Usual:
         self.output = Output(*outputs)
         self.counts: Counter[bytes] = counted(commands[0]) | counted(commands[1])
         self.statuses = set.union(*(it.statuses() for it in dialogues))
-        mine, its = map(by_command, dialogues)
-        self.responses = {it: data for it, data in mine.items() if its.get(it, data) == data}
-        steps, others = (it.steps() for it in dialogues)
-        self.steps = [a for a, b in zip(steps, others) if a.command[:4] == b.command[:4]]
         self.left_out = [f"output {it}" for it in self.output.left_out]
+        self.steps = list[Step]()
+        self.take_steps(*(it.steps() for it in dialogues))
+        self.responses = dict[bytes, set[bytes]]()
+        self.take_responses(*map(by_command, dialogues))
+
+    def take_steps(self, steps: list[Step], others: list[Step]) -> None:
+        """Takes the commands that both runs have."""
         if len(steps) != len(others):
             self.left_out.append(f"commands after {min(len(steps), len(others))}")
-        self.left_out += [f"command {a.number} {a.command.hex().upper()}, {b.command.hex().upper()}"
-                          for a, b in zip(steps, others) if a.command != b.command]
-        self.left_out += [f"the response to {it.hex().upper()}"
-                          for it in mine if it not in self.responses]
+        for step, other in zip(steps, others):
+            if step.command[:4] == other.command[:4]:
+                self.steps.append(step)
+            if step.command != other.command:
+                command, its = (it.command.hex().upper() for it in (step, other))
+                self.left_out.append(f"command {step.number} {command}, {its}")
+
+    def take_responses(self, mine: dict[bytes, set[bytes]], its: dict[bytes, set[bytes]]) -> None:
+        """Takes the responses of one run that the other one does not contradict."""
+        for command, data in mine.items():
+            if its.get(command, data) == data:
+                self.responses[command] = data
+            else:
+                self.left_out.append(f"the response to {command.hex().upper()}")
 
     def has_other_data(self, dialogue: Dialogue) -> bool:
         """Whether the card sent data that it does not send without a fault. A terminal may leave
         out the end of a response."""
-        return any(command in self.responses and not any(it.startswith(data)
-                                                         for it in self.responses[command])
-                   for command, data in dialogue.responses())
+        return any(self.is_other(command, data) for command, data in dialogue.responses())
+
+    def is_other(self, command: bytes, data: bytes) -> bool:
+        """Whether the card sends other data for a command without a fault."""
+        usual = self.responses.get(command)
+        return usual is not None and not any(it.startswith(data) for it in usual)
 
     def is_exceeded(self, commands: Iterable[bytes]) -> bool:
         """Whether the card carried out a command again, and more often than without a fault."""

@@ -20,7 +20,7 @@ def flipped(data: bytes, *bits: int) -> bytes:
 def tag_size(data: bytes) -> int:
     """How many bytes the tag of an object takes: one or two."""
     has_more = any(it & 31 == 31 for it in data[:1])
-    return 2 if has_more or not data else 1
+    return 2 if has_more else 1
 
 
 def head_size(data: bytes) -> int:

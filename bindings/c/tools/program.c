@@ -1,13 +1,10 @@
-#define _POSIX_C_SOURCE 200112L
-
 #include "program.h"
 #include "operation.h"
+#include "system.h"
 
-#include <fcntl.h>
 #include <stdio.h>
 #include <stdlib.h>
 #include <string.h>
-#include <unistd.h>
 
 #define NUMBER(number) #number
 #define DOTTED(major, minor, patch) NUMBER(major) "." NUMBER(minor) "." NUMBER(patch)
@@ -44,18 +41,6 @@ int program_refuse(const char *fault)
 int program_end_output(void)
 {
     return fflush(stdout) == 0 && !ferror(stdout) ? ALL_WELL : program_tell("write fault");
-}
-
-static bool fill_descriptors(void)
-{
-    int fd;
-    for (fd = STDIN_FILENO; fd <= STDERR_FILENO; fd++) {
-        /* open takes the lowest free number, which is this one */
-        if (fcntl(fd, F_GETFD) < 0
-            && open("/dev/null", fd == STDIN_FILENO ? O_WRONLY : O_RDONLY) != fd)
-            return false;
-    }
-    return true;
 }
 
 unsigned long program_number(const char *word, size_t digits, unsigned long most)
@@ -140,7 +125,7 @@ int program_main(const struct program *program, int argc, char **argv)
     const char *fault = NULL;
     int at;
     own = program;
-    if (!fill_descriptors())
+    if (!system_begin())
         return FAULT;
     words.words = argv + 1;
     for (at = 1; at < argc && fault == NULL; at++) {

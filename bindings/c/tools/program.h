@@ -42,11 +42,7 @@ struct program {
 };
 
 /* The `main` of a program. Options may be anywhere, except that `--` ends them, and the word after
- * `put TAG` is a value, whatever it begins with.
- *
- * First it opens each closed one of the descriptors 0, 1 and 2 in the wrong direction: 0 for
- * writing, 1 and 2 for reading. Otherwise the next file gets that number, and what the program
- * prints goes into that file. With it a later read or write fails. */
+ * `put TAG` is a value, whatever it begins with. */
 int program_main(const struct program *program, int argc, char **argv);
 
 /* The program's own place for the texts of text.h. A text stays until the next one. */

@@ -24,7 +24,8 @@ static const struct {
     LONG code;
     const char *text;
 } TEXTS[] = {
-    { SCARD_E_NO_SERVICE, "pcscd is not running" },
+    { SCARD_E_NO_SERVICE, SERVICE " is not running" },
+    { SCARD_E_SERVICE_STOPPED, SERVICE " is not running" },
     { SCARD_E_NO_READERS_AVAILABLE, "no reader" },
     { SCARD_E_UNKNOWN_READER, "the reader is gone" },
     { SCARD_E_READER_UNAVAILABLE, "the reader is gone" },
@@ -37,8 +38,8 @@ static const struct {
     { SCARD_E_NOT_TRANSACTED, "the reader could not carry out the command" },
     { SCARD_F_COMM_ERROR, "the reader could not carry out the command" },
     { SCARD_E_INSUFFICIENT_BUFFER, "the reader returns more bytes than any answer has" },
-    { SCARD_W_SECURITY_VIOLATION, "pcscd refuses this user (SCARD_W_SECURITY_VIOLATION): log in at "
-                                  "the machine itself, or let polkit allow it" },
+    { SCARD_W_SECURITY_VIOLATION, SERVICE " refuses this user (SCARD_W_SECURITY_VIOLATION)"
+                                  REMEDY },
 };
 
 /* NULL for success, and a text for each other code of a call without a context. */
@@ -176,7 +177,7 @@ static const char *fault_of(const struct reader *reader, LONG code)
 {
     const bool may_be_gone = code == SCARD_F_COMM_ERROR || code == SCARD_W_SECURITY_VIOLATION;
     if (code == SCARD_E_NO_SERVICE || (may_be_gone && !is_answered(reader)))
-        return "pcscd is gone";
+        return SERVICE " is gone";
     return code == SCARD_E_PROTO_MISMATCH ? mismatch_text(reader) : text_of(code);
 }
 

@@ -1,13 +1,14 @@
 /* A card in a PC/SC reader: one connection, and one transaction from its beginning to its end. Only
- * this file and reader.c know PC/SC. */
+ * this file, reader.c and waiting.c know PC/SC. */
 #ifndef READER_H
 #define READER_H
+
+#include "pcsc.h"
 
 #include <stdbool.h>
 #include <stddef.h>
 #include <stdint.h>
 #include <stdio.h>
-#include <winscard.h>
 
 struct reader {
     SCARDCONTEXT context;

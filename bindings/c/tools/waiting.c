@@ -1,13 +1,12 @@
 #define _POSIX_C_SOURCE 200112L
 
 #include "waiting.h"
+#include "pcsc.h"
 
-#include <poll.h>
 #include <stdbool.h>
 #include <stdio.h>
 #include <string.h>
 #include <unistd.h>
-#include <winscard.h>
 
 /* how often the watch looks, in milliseconds */
 #define TICK 500
@@ -33,11 +32,9 @@ static bool is_in_use(const char *reader)
 static void *watch(void *its)
 {
     const struct waiting *waiting = its;
-    struct pollfd end = { 0, POLLIN, 0 };
     bool has_told = false;
     long tick;
-    end.fd = waiting->ends[0];
-    for (tick = 1; poll(&end, 1, TICK) == 0; tick++) {
+    for (tick = 1; !bell_await(&waiting->end, TICK); tick++) {
         const bool is_late = waiting->limit >= 0 && tick * TICK >= waiting->limit * 1000;
         if ((!is_late && (has_told || tick * TICK < 1000)) || !is_in_use(waiting->reader))
             continue;
@@ -54,7 +51,7 @@ const char *waiting_begin(struct waiting *waiting, const char *reader, long limi
 {
     waiting->reader = reader;
     waiting->limit = limit;
-    if (pipe(waiting->ends) != 0)
+    if (!bell_make(&waiting->end))
         return "cannot create a pipe";
     return pthread_create(&waiting->thread, NULL, watch, waiting) == 0 ? NULL
                                                                         : "cannot create a thread";
@@ -62,7 +59,7 @@ const char *waiting_begin(struct waiting *waiting, const char *reader, long limi
 
 void waiting_end(struct waiting *waiting)
 {
-    close(waiting->ends[1]);
+    bell_ring(&waiting->end);
     pthread_join(waiting->thread, NULL);
-    close(waiting->ends[0]);
+    bell_free(&waiting->end);
 }

@@ -2,6 +2,8 @@
 #ifndef WAITING_H
 #define WAITING_H
 
+#include "system.h"
+
 #include <pthread.h>
 
 /* A watch over calls that return only after another program has ended its transaction: pcsc-lite
@@ -9,7 +11,7 @@
 struct waiting {
     const char *reader;
     long limit;
-    int ends[2];            /* a pipe, whose end is closed when the calls have returned */
+    struct bell end;        /* rings when the calls have returned */
     pthread_t thread;
 };
 

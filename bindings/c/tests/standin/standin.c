@@ -11,10 +11,9 @@
  * - STANDIN_APDUS: the reader takes commands at T=0, too. */
 #define _POSIX_C_SOURCE 200112L
 
+#include "pcsc.h"
 #include "table.h"
 #include "text.h"
-
-#include <winscard.h>
 
 #include <stdlib.h>
 #include <string.h>
@@ -484,6 +483,6 @@ LONG SCardTransmit(SCARDHANDLE handle, const SCARD_IO_REQUEST *protocol, LPCBYTE
     if (*length < size)
         return SCARD_E_INSUFFICIENT_BUFFER;
     memcpy(received, answer, size);
-    *length = size;
+    *length = (DWORD)size;
     return SCARD_S_SUCCESS;
 }

@@ -29,6 +29,19 @@ put 9F36 {code}
 put 50 41*300
 """
 
+# Carries out all rows, and leaves the log of the database behind, as a crash would.
+CRASHES = """import os
+from galliumtoad.batch.journal import Journal
+journal = Journal("journal")
+journal.sync([None] * 3)
+journal.start("")
+for row in 1, 2, 3:
+    journal.begin(journal.reserve("A"), "0" * 16, "A")
+    journal.identify(row, f"43{row}")
+    journal.note(row, "done", "")
+os._exit(0)
+"""
+
 # The program, in a process whose files have at most this number of bytes.
 FULL = """import resource, runpy, signal
 resource.setrlimit(resource.RLIMIT_FSIZE, ({0}, {0}))
@@ -230,12 +243,14 @@ class Room:
 
     def events(self):
         """The word and the row of each step in the journal, in their order. Its creation may not
-        have ended."""
+        have ended: then it has no table."""
         try:
             steps = "SELECT word, number FROM log ORDER BY rowid"
             found = self.asked(steps) if (self.path / "journal").exists() else []
             return [f"{word} {row}" for word, row in found]
-        except sqlite3.OperationalError:
+        except sqlite3.OperationalError as error:
+            if "no such table" not in str(error):
+                raise
             return []
 
     def add(self, *texts):

@@ -14,8 +14,8 @@ import pytest
 from galliumtoad import Card, Select, Terminal
 from galliumtoad.batch.journal import Journal
 from galliumtoad.batch.script import Recorder, Script, carry_out, check_of
-from room import (AID, HERE, SCRIPT, STANDIN, Room, ended, interruptible, lines_up_to, listed,
-                  refused, steps_of, told)
+from room import (AID, CRASHES, HERE, SCRIPT, STANDIN, Room, ended, interruptible, lines_up_to,
+                  listed, refused, steps_of, told)
 
 sys.path.append(str(HERE.parents[2] / "checks/program"))
 import operations  # noqa: E402
@@ -284,25 +284,12 @@ def test_readers_with_long_names(tmp_path):
     assert "set aside" not in out
 
 
-# Carries out all rows, and leaves the log of the database behind, as a crash would.
-CRASHES = """import os
-from galliumtoad.batch.journal import Journal
-journal = Journal("journal")
-journal.sync([None] * 3)
-journal.start("")
-for row in 1, 2, 3:
-    journal.begin(journal.reserve("A"), "0" * 16, "A")
-    journal.identify(row, f"43{row}")
-    journal.note(row, "done", "")
-os._exit(0)
-"""
-
-
 def test_a_journal_that_was_cut(tmp_path):
     """Its log, by a crash. What is left is how the journal was at some time."""
     room = Room(tmp_path, 3)
     room.create(0x9F7F)
     assert ended(room.start_program([sys.executable, "-c", CRASHES])) == ("", "")
+    (tmp_path / "journal-steps").unlink()  # what was not synced was not counted either
     whole = {it: (tmp_path / it).read_bytes() for it in ("journal", "journal-wal")}
     log, seen = whole["journal-wal"], []
     frame = 24 + 4096  # after a head of 32 bytes
@@ -337,6 +324,7 @@ def test_a_run_goes_on_with_a_journal_that_was_cut(tmp_path):
     ended(run)
     log = (tmp_path / "journal-wal").read_bytes()
     (tmp_path / "journal-wal").write_bytes(log[: len(log) - 4000])
+    (tmp_path / "journal-steps").unlink()
     room.decide()
     room.finish(3)
 

@@ -362,7 +362,7 @@ with open("rows.csv", "w") as file:
 
 
 def test_memory_does_not_grow_with_the_table(room):
-    """The whole of a million rows was measured by hand: see LAB."""
+    """The whole of a million rows was measured by hand: see STATIONS."""
     subprocess.run([sys.executable, "-c", TABLE, "20000"], cwd=room.path, check=True)
     asks = """import resource, sys
 from galliumtoad.batch import main
@@ -380,4 +380,4 @@ print(resource.getrusage(resource.RUSAGE_SELF).ru_maxrss)
         assert out.startswith(f"{count:,} rows imported\n")
         sizes.append(int(out.splitlines()[1]))
         (room.path / f"j{count}").rename(room.path.parent / f"j{count}-{os.getpid()}")
-    assert sizes[1] - sizes[0] < 9000  # kilobytes: 16 bytes a row, a list of them, and pages
+    assert sizes[1] - sizes[0] < 9000  # kilobytes: 12 bytes a row and key, and pages

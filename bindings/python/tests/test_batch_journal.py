@@ -1,6 +1,7 @@
 """Tests journals of a batch that are damaged, can't be written, or are on a disk without locks; and
 leases of runs."""
 
+import contextlib
 import errno
 import fcntl
 import os
@@ -12,8 +13,9 @@ import time
 
 import pytest
 from galliumtoad.batch import journal
+from galliumtoad.batch.in_file import Steps
 from galliumtoad.batch.journal import Journal
-from room import Room, ended, listed, refused
+from room import CRASHES, Room, ended, listed, refused
 
 
 @pytest.mark.parametrize("number", [None, errno.ENOLCK, errno.EOPNOTSUPP])
@@ -178,6 +180,65 @@ def test_each_bit_that_flips_in_a_journal_is_found_or_changes_nothing(tmp_path):
     assert found > 500 and unused
 
 
+def test_steps_that_a_damaged_log_has_lost_are_missed(tmp_path):
+    """SQLite takes the log of a crash up to its first damaged byte, and says nothing."""
+    room = Room(tmp_path, 3)
+    room.create(0x9F7F)
+    assert ended(room.start_program([sys.executable, "-c", CRASHES])) == ("", "")
+    names = ("journal", "journal-wal", "journal-steps")
+    whole, lost = {it: (tmp_path / it).read_bytes() for it in names}, set()
+    log, before = whole["journal-wal"], said(tmp_path)
+    for number, at in enumerate(range(0, len(log), 331)):
+        (folder := tmp_path / str(at)).mkdir()
+        whole["journal-wal"] = log[:at] + bytes([log[at] ^ 1 << number % 8]) + log[at + 1 :]
+        for name in names:
+            (folder / name).write_bytes(whole[name])
+        try:
+            assert said(folder)[1:] == before[1:], at
+        except ValueError as error:
+            lost.add(int(re.search(r"/journal lacks its last (\d) steps?: look", str(error))[1]))
+    assert lost == {*range(1, 10)}
+    whole["journal-wal"] = bytes(len(log))
+    for name in names:
+        (tmp_path / name).write_bytes(whole[name])
+    wanted = refused("journal lacks its last 9 steps: look what the last cards hold, and remove"
+                     " journal-steps")
+    for words in ((), ("--status",), ("--done=1",)):
+        assert room.run(*words) == wanted
+    assert not room.held()
+    (tmp_path / "journal-steps").unlink()
+    assert room.run("--status")[0] == 1
+
+
+def test_the_number_of_steps_only_grows(tmp_path, monkeypatch):
+    """Whichever process notes it later."""
+    synced = []
+    monkeypatch.setattr(os, "fdatasync", lambda file: synced.append(os.pread(file, 99, 0)))
+    one, two = (Steps(str(tmp_path / "day.db"), False) for _ in range(2))
+    looks = Steps(str(tmp_path / "day.db"), True)
+    one.note(0)
+    looks.compare(lambda: 0)
+    assert not [*tmp_path.iterdir()]
+    one.note(5)
+    two.note(3)
+    assert synced == [b"00000000000000000005\n"]
+    looks = Steps(str(tmp_path / "day.db"), True)
+    for it in (one, two, looks):
+        it.compare(lambda: 5)
+        with pytest.raises(ValueError, match="day.db lacks its last 1 step: "):
+            it.compare(lambda: 4)
+    two.note(12)
+    with pytest.raises(ValueError, match="day.db lacks its last 7 steps: "):
+        one.compare(lambda: 5)
+    # another process has one more step meanwhile
+    one.compare(lambda: two.note(13) or 12)
+    (tmp_path / "day.db-steps").write_bytes(bytes(21))  # a crash at its creation
+    looks.compare(lambda: 0)
+    (tmp_path / "day.db-steps").write_text("000000000000000000x5\n")
+    with pytest.raises(ValueError, match="day.db-steps is damaged: no number"):
+        looks.compare(lambda: 5)
+
+
 @pytest.mark.parametrize(("words", "what"), [
     ("UPDATE rows SET state = 'free' WHERE number = 1", "the sum of row 1 is wrong"),
     ("UPDATE rows SET card = '43000009' WHERE number = 2", "the sum of row 2 is wrong"),
@@ -206,6 +267,31 @@ def test_a_card_that_is_lost_gets_no_second_row(tmp_path):
         found.identify(3, "43000001")
     cards = room.asked("SELECT card FROM rows ORDER BY number")
     assert cards == [("43000001",), ("43000002",), (None,)]
+
+
+def test_the_cost_of_a_row_does_not_grow_with_the_table(tmp_path):
+    """Each of its few statements finds its rows by an index."""
+    room, said = Room(tmp_path, 1), []
+    room.create(0x9F7F)
+    one = room.opened(50)
+
+    def noted(call):
+        def noting(words, *values):
+            said.append((words, values))
+            return call(words, *values)
+
+        return noting
+
+    execute = one.base.execute
+    one.base.execute, one.base.change = noted(execute), noted(one.base.change)
+    row = one.reserve("A")
+    assert one.begin(row, "00", "A") and one.identify(row, "43") == row
+    assert one.note(row, "done", "") and one.has_free()
+    assert len(said) < 16
+    plans = [str(it[-1]) for words, values in said
+             for it in execute(f"EXPLAIN QUERY PLAN {words}", *values)]
+    assert len(plans) > 8
+    assert [it for it in plans if re.match("SCAN (TABLE )?(rows|log|cards)|USE TEMP", it)] == []
 
 
 def test_a_damaged_journal_ends_a_run_and_a_status_with_2(tmp_path):

@@ -48,10 +48,10 @@ def test_a_run_tells_where_it_continues(tmp_path):
 @pytest.mark.parametrize("encoding", ["utf-8", "ascii"])
 def test_a_reader_with_a_name_in_another_script(tmp_path, encoding):
     """Also if the output lacks its letters. The journal has them, and stays one."""
-    room = Room(tmp_path, 2, readers=0, PYTHONIOENCODING=encoding)
-    room.add_reader("L\u00e4ser")
+    room, name = Room(tmp_path, 2, readers=0, PYTHONIOENCODING=encoding), f"L\u00e4ser{os.getpid()}"
+    room.add_reader(name)
     room.is_apart = True
-    shown = "L\u00e4ser" if encoding == "utf-8" else "L\\xe4ser"
+    shown = name if encoding == "utf-8" else name.replace("\u00e4", "\\xe4")
     status, out, error = room.run("--reader=ser", "--stop-after=1")
     assert (status, error) == (0, "") and f"{shown}: row 2 done" in out
     (tmp_path / "there").mkdir()
@@ -125,7 +125,7 @@ class Terminal:
         os.close(theirs)
 
     def read(self, until=None, seconds=60):
-        """Reads until a text comes, or to the end."""
+        """Reads until a text comes, or to the end. Fails if the run ends before the text."""
         end = time.monotonic() + seconds
         while until is None or until not in self.text:
             assert time.monotonic() < end, self.text
@@ -133,8 +133,15 @@ class Terminal:
                 try:
                     self.text += os.read(self.ours, 65536).decode(errors="replace")
                 except OSError:
+                    assert until is None, self.text
                     break
         return self.text
+
+    def kill(self):
+        """Kills the run. Its reader is free for the next one."""
+        self.run.kill()
+        self.run.wait()
+        os.close(self.ours)
 
 
 @pytest.mark.parametrize("without", [":", "exec >&-", "exec 2>&-", "exec <&-"])
@@ -172,7 +179,7 @@ def test_enter_does_not_write_a_card_that_was_written(tmp_path):
         os.write(terminal.ours, b"\n")
         time.sleep(0.3)
     assert room.events() == ["begin 1", "done 1"]
-    terminal.run.kill()
+    terminal.kill()
 
 
 def test_a_bar_counts_the_rows_of_its_run_for_the_rate(tmp_path):
@@ -183,7 +190,7 @@ def test_a_bar_counts_the_rows_of_its_run_for_the_rate(tmp_path):
     terminal = Terminal(room)
     text = terminal.read(" a minute")
     assert done > 3 and f"{done} of 20 rows, 0 a minute" in text
-    terminal.run.kill()
+    terminal.kill()
 
 
 def test_a_part_without_a_row_has_nothing_to_do(tmp_path, monkeypatch):
@@ -401,14 +408,16 @@ def test_two_processes_write_one_report(tmp_path, monkeypatch):
 
 
 def test_a_report_that_is_lost_stops_no_card(tmp_path):
-    room = Room(tmp_path, 4, SLOW="0.05")
+    room = Room(tmp_path, 1000, SLOW="0.05")
     (tmp_path / "here").mkdir()
-    run = room.start("--report=here/day.html")
+    run = interruptible(room, "--report=here/day.html")
     room.begun()
     (tmp_path / "here").rename(tmp_path / "there")
-    out, error = ended(run)
     why = f"[Errno 2] No such file or directory: 'here/day.html.{run.pid}.new'"
-    assert f"no report: {why}\n" in out and out.count(" done, ") == 4
+    lines_up_to(run, f"no report: {why}\n")
+    lines_up_to(run, " done, ")
+    run.send_signal(signal.SIGINT)
+    error = ended(run)[1]
     assert (run.returncode, error) == (2, f"galliumtoad.batch: {why}\n")
 
 

@@ -10,7 +10,7 @@ from datetime import datetime
 from typing import Any, Iterator, Optional
 
 from ..mistakes import program
-from .in_file import refuse_existing
+from .in_file import BESIDE, refuse_existing
 from .journal import Entry, Heading, Journal, create, link, sum_of
 from .script import counted
 
@@ -95,9 +95,11 @@ def bring_over(old: Old, new: str) -> None:
         if os.path.islink(name) and os.path.realpath(name) == os.path.realpath(old.path):
             os.unlink(name)
         link(os.path.realpath(new), old.heading)
+        with contextlib.suppress(FileNotFoundError):
+            os.unlink(f"{new}-steps")  # of one that is gone
         os.rename(made, new)
     finally:
-        for it in ("", "-wal", "-shm"):
+        for it in ("", *BESIDE):
             with contextlib.suppress(FileNotFoundError):
                 os.unlink(made + it)
 

@@ -9,6 +9,7 @@ import re
 import shlex
 import subprocess
 from array import array
+from heapq import nsmallest
 from itertools import chain, islice
 from secrets import token_bytes
 from typing import Any, Iterator, Optional, Sequence
@@ -18,6 +19,7 @@ from .script import Row, Script, Step, counted, digest, read, texts_of
 
 Rows = Sequence[list[Step]]
 MOST = 1000  # mistakes, then the search ends
+_PARTS = 64  # of what is sorted at once
 _SECONDS = 60  # for a command that returns secrets
 
 
@@ -66,12 +68,12 @@ class Table:
 
 
 class Doubts:
-    """What `--allow-duplicates` allows, and keys that are there twice. It keeps 16 bytes of a row,
-    and of each identifier in it."""
+    """What `--allow-duplicates` allows, and keys that are there twice. It keeps 12 bytes of a row,
+    and of each identifier in it, in parts by their sums."""
 
     def __init__(self, script: Script, key: str, allows: bool) -> None:
         self.texts, self.key, self.allows = texts_of(script), key, allows
-        self._salt, self._seen = token_bytes(16), dict[str, tuple[Any, Any]]()
+        self._salt, self._seen = token_bytes(16), dict[str, list[tuple[Any, Any]]]()
 
     def look(self, line: int, where: str, row: Row) -> Iterator[str]:
         """Yields the doubts of a row alone."""
@@ -85,25 +87,33 @@ class Doubts:
             yield f"{where}, column {self.key!r}: {fault}"
 
     def _add(self, name: str, line: int, *said: str) -> None:
-        sums, lines = self._seen.setdefault(name, (array("Q"), array("Q")))
-        sums.append(int.from_bytes(digest(said, self._salt), "big"))
+        if name not in self._seen:
+            self._seen[name] = [(array("Q"), array("I")) for _ in range(_PARTS)]
+        check = int.from_bytes(digest(said, self._salt), "big")
+        sums, lines = self._seen[name][check % _PARTS]
+        sums.append(check)
         lines.append(line)
 
     def twice(self, path: str) -> Iterator[str]:
         """Yields the rows that are there twice, and their keys and identifiers."""
         same = set[int]()
         for name in sorted(self._seen):
-            sums, lines = self._seen[name]
+            for line, before in nsmallest(MOST, self._pairs(name)):
+                if not name:
+                    same.add(line)
+                    yield f"{path} line {line}: the same row as {path} line {before}"
+                elif line not in same:
+                    yield (f"{path} line {line}, column {name!r}: the same as in {path} line"
+                           f" {before}")
+
+    def _pairs(self, name: str) -> Iterator[tuple[int, int]]:
+        """Yields each line with a sum that was there before, and the first line with it."""
+        for sums, lines in self._seen[name]:
             in_order, first = sorted(sums), dict[int, int]()
             twice = {one for one, next_one in zip(in_order, in_order[1:]) if one == next_one}
             for it, line in zip(sums, lines):
                 if it in twice and (before := first.setdefault(it, line)) != line:
-                    if not name:
-                        same.add(line)
-                        yield f"{path} line {line}: the same row as {path} line {before}"
-                    elif line not in same:
-                        yield (f"{path} line {line}, column {name!r}: the same as in {path} line"
-                               f" {before}")
+                    yield line, before
 
 
 def _fault_of_key(cell: Optional[str]) -> str:

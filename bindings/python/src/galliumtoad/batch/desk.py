@@ -189,7 +189,7 @@ class Reader(threading.Thread):
 
     def run(self) -> None:
         is_here = False
-        while self._may_continue():
+        while self._may_continue() and self.journal.has_free():
             try:
                 self.reader, is_here = chosen([self.part])[self.part], True
                 with socket.socket(socket.AF_UNIX) as mark, contextlib.ExitStack() as ends:
@@ -220,9 +220,8 @@ class Reader(threading.Thread):
                 self.journal.release(row)
 
     def _may_continue(self) -> bool:
-        if self.desk.stopped.is_set() or self.desk.interrupts or self.failures >= FAILURES_IN_A_ROW:
-            return False
-        return self.row is not None or self.journal.has_free()
+        return not (self.desk.stopped.is_set() or self.desk.interrupts
+                    or self.failures >= FAILURES_IN_A_ROW)
 
     def _say(self, what: str) -> None:
         self.desk.say(f"{self.reader}: {what}")
@@ -238,6 +237,8 @@ class Reader(threading.Thread):
             if lies and self.desk.keys > keys:
                 used = -1
             self.row = self.row or self.journal.reserve(self.reader)
+            if self.row is None and not self.journal.has_free():
+                break
             if self.row and known & PRESENT and known >> 16 != used:
                 try:
                     card, asked = connected(self.reader), 0

@@ -8,11 +8,13 @@ import threading
 from typing import Any, Callable, Iterator, Optional
 from urllib.parse import quote
 
+from .script import counted
 from .tables import EXISTS, TABLES, T
 
 _MAGIC = b"SQLite format 3\0"
 _APPLICATION = 0x47614A31  # names the program in a file of SQLite
 _WAITS = 30.0  # seconds, for another process that writes
+BESIDE = ("-wal", "-shm", "-steps")  # what a file of a journal has beside it
 _SMALL = 16 << 20  # bytes of a file that is looked through whole at the start of a run
 
 
@@ -93,6 +95,7 @@ def create(path: str, heading: tuple[Any, ...]) -> None:
         made.execute("BEGIN EXCLUSIVE")
         if made.execute("SELECT 1 FROM sqlite_master").fetchall():
             raise ValueError(f"{path} {EXISTS}")
+        os.close(os.open(f"{path}-steps", os.O_RDWR | os.O_CREAT | os.O_TRUNC, 0o600))
         for it in TABLES:
             made.execute(it)
         made.execute("INSERT INTO batch VALUES (?, ?, ?)", heading)
@@ -102,6 +105,47 @@ def create(path: str, heading: tuple[Any, ...]) -> None:
     folder = os.open(os.path.dirname(os.path.abspath(path)), os.O_RDONLY)
     os.fsync(folder)
     os.close(folder)
+
+
+class Steps:
+    """The number of a journal's steps, in a file beside it. If the log of SQLite is damaged by a
+    crash, its last steps are lost unseen: then the journal has fewer. To look needs no file."""
+
+    def __init__(self, path: str, only_looks: bool) -> None:
+        self.path, self._file, self._known = path, -1, 0
+        how = os.O_RDONLY if only_looks else os.O_RDWR
+        with contextlib.suppress(FileNotFoundError, *[PermissionError] * only_looks):
+            self._file = os.open(f"{path}-steps", how)
+
+    def _noted(self) -> int:
+        text = os.pread(self._file, 21, 0) if self._file >= 0 else b""
+        try:
+            return int(text.strip(b"\0") or 0)
+        except ValueError:
+            raise ValueError(f"{self.path}-steps is damaged: no number") from None
+
+    def compare(self, count: Callable[[], int]) -> None:
+        """Raises `ValueError` if fewer steps are there than were noted before."""
+        if (lost := self._noted() - count()) > 0:
+            raise ValueError(f"{self.path} lacks its last {counted(lost, 'step')}: look what the "
+                             f"last cards hold, and remove {self.path}-steps")
+
+    def note(self, count: int) -> None:
+        """Notes a number of steps, on disk, unless another process has noted more."""
+        if count > self._known:
+            self._known = count
+            if self._file < 0:
+                self._file = os.open(f"{self.path}-steps", os.O_RDWR | os.O_CREAT, 0o600)
+            fcntl.lockf(self._file, fcntl.LOCK_EX)
+            if count > self._noted():
+                os.pwrite(self._file, b"%020d\n" % count, 0)
+                os.fdatasync(self._file)
+            fcntl.lockf(self._file, fcntl.LOCK_UN)
+
+    def close(self) -> None:
+        file, self._file = self._file, -1
+        if file >= 0:
+            os.close(file)
 
 
 class File:
@@ -122,8 +166,14 @@ class File:
             refuse_without_locks(path)
         with _faults(path):
             self._connection, self._were = self._opened(), self._numbers()
-        if only_looks or os.path.getsize(path) < _SMALL:
-            self.look_through()
+            self._steps = Steps(path, only_looks)
+        try:
+            self._steps.compare(self._count)
+            if only_looks or os.path.getsize(path) < _SMALL:
+                self.look_through()
+        except BaseException:
+            self.close()
+            raise
 
     def _opened(self) -> sqlite3.Connection:
         name = f"file:{quote(os.path.abspath(self.place))}"
@@ -156,14 +206,24 @@ class File:
             try:
                 found = work()
                 self._connection.execute("COMMIT")
+                if changes:
+                    self._steps.note(self._count())
                 return found
             except BaseException:
                 with contextlib.suppress(sqlite3.Error):  # a full disk has ended it
                     self._connection.execute("ROLLBACK")
                 raise
 
+    def _count(self) -> int:
+        with _faults(self.place):
+            [(count,)] = self._connection.execute("SELECT coalesce(max(rowid), 0) FROM log")
+            return int(count)
+
     def execute(self, words: str, *values: Any) -> list[tuple[Any, ...]]:
         return self._connection.execute(words, values).fetchall()
+
+    def change(self, words: str, *values: Any) -> int:
+        return self._connection.execute(words, values).rowcount
 
     def insert(self, table: str, rows: list[tuple[Any, ...]]) -> None:
         signs = ", ".join("?" * len(rows[0]))
@@ -183,13 +243,14 @@ class File:
 
     def drop(self) -> None:
         self.close()
-        for it in ("", "-wal", "-shm"):
+        for it in ("", *BESIDE):
             with contextlib.suppress(FileNotFoundError):
                 os.unlink(self.place + it)
 
     def close(self) -> None:
         with self._alone:
             self._connection.close()
+            self._steps.close()
 
     def _numbers(self) -> list[Optional[int]]:  # of the file and of the log beside it
         names = (self.place, f"{self.place}-wal")

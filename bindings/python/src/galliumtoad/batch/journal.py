@@ -145,7 +145,7 @@ def refuse_a_second(path: str, table: str, at: int, of: int) -> None:
     for folder in sorted({os.path.dirname(it) for it in (mine, place)}):
         for it in os.scandir(folder):
             # The end of a look at a file of this journal would drop its locks.
-            if it.is_file() and it.stat().st_ino != own and not it.name.endswith(("-shm", "-wal")):
+            if it.is_file() and it.stat().st_ino != own and not it.name.endswith(in_file.BESIDE):
                 other = os.path.realpath(it.path)
                 with contextlib.suppress(ValueError):  # no journal
                     found = heading_of(other, in_file.heading_in(it.path))
@@ -199,6 +199,14 @@ def whole(method: Callable[..., T]) -> Callable[..., T]:
     return call
 
 
+def look(method: Callable[..., T]) -> Callable[..., T]:
+    """Makes of a method one look at the database, which hinders nobody."""
+    @functools.wraps(method)
+    def call(self: "Journal", *words: Any) -> T:
+        return self.base.whole(lambda: method(self, *words), False)
+    return call
+
+
 class Journal:
     """A journal, for all threads of a process. A refused one does not change, and `only_looks`
     opens one that can't be written. `writes` counts the changes of rows by this process, and `more`
@@ -213,7 +221,7 @@ class Journal:
         self.heading, self.who = heading_of(place, self._heading()), who
         self._has_run, self._own = False, set[str]()  # whose lease lasts
 
-    @whole
+    @look
     def _heading(self) -> Optional[tuple[Any, ...]]:
         return [*self.base.execute("SELECT * FROM batch"), None][0]
 
@@ -268,14 +276,13 @@ class Journal:
         Returns None if none is free, or this run has ended."""
         if not self._own:
             return None
-        self._free_lapsed()
-        mine = self._entries("WHERE state = 'taken' AND run = ? AND reader = ?", self.run,
-                             plain(reader))
-        if mine and wanted in (None, mine[0].number):
-            return mine[0].number
-        which = "" if wanted is None else f" AND number = {wanted}"
+        mine = (it.number for it in self._at_work() if it.state == "taken"
+                and (it.run, it.reader) == (self.run, plain(reader)))
+        if (taken := next(mine, None)) and wanted in (None, taken):
+            return taken
+        which, values = ("", ()) if wanted is None else (" AND number = ?", (wanted,))
         found = self._entries(f"WHERE state = 'free'{which} ORDER BY number LIMIT 1"
-                              f"{self.base.for_free}")
+                              f"{self.base.for_free}", *values)
         for it in found:
             self._change(it, state="taken", run=self.run, reader=plain(reader))
         return found[0].number if found else None
@@ -283,46 +290,46 @@ class Journal:
     @whole
     def release(self, row: int) -> None:
         """Gives up a row that has not begun."""
-        it = self._entry(row)
+        it, _ = self._locked(row)
         if it.state == "taken" and it.run == self.run:
             self._change(it, state="free", run=None, reader=None)
 
     @whole
     def begin(self, row: int, digest: str, reader: str) -> bool:
         """Notes that a row begins. Returns whether it may: its lease has not ended meanwhile."""
-        it, now = self._entry(row), self._now()
+        it, now = self._locked(row)
         if it.run != self.run or it.state not in ("taken", "begun"):
             return False
         self._renew()
-        self._change(it, "begin", plain(reader), state="begun", reader=plain(reader), card=None,
-                     digest=digest, begun=now, ended=now, reason="", decided=0)
+        self._change(it, ("begin", plain(reader), now), state="begun", reader=plain(reader),
+                     card=None, digest=digest, begun=now, ended=now, reason="", decided=0)
         return True
 
     @whole
     def identify(self, row: int, card: str) -> Optional[int]:
         """Notes the card of a row, unless the card has another row. Returns the card's row, or None
         if a person has decided about this row meanwhile."""
-        it, now = self._entry(row), self._now()
+        it, now = self._locked(row)
         if not self._is_mine(it):
             return None
-        self.base.execute(
+        is_own = self.base.change(
             "INSERT INTO cards VALUES (?, ?, ?, ?) ON CONFLICT (card) DO UPDATE SET"
             " at = excluded.at, sum = excluded.sum WHERE cards.number = excluded.number",
             card, row, now, sum_of(card, row, now))
-        [own] = [int(it[1]) for it in self._cards("WHERE card = ?", card)]
-        if own == row:
-            self._change(it, "card", card, card=card)
-        return own
+        if not is_own:
+            return int(self._cards("WHERE card = ?", card)[0][1])
+        self._change(it, ("card", card, now), card=card)
+        return row
 
     @whole
     def note(self, row: int, word: str, reason: str) -> bool:
         """Notes how a row ended. Returns False if a person has decided about it meanwhile."""
-        it = self._entry(row)
+        it, now = self._locked(row)
         if it.run == self.run and it.state == _ENDS[word] and not it.decided:
             return True  # the database was lost after it had noted that
         if not self._is_mine(it):
             return False
-        self._change(it, word, plain(reason), state=_ENDS[word], ended=self._now(),
+        self._change(it, (word, plain(reason), now), state=_ENDS[word], ended=now,
                      reason=plain(reason))
         return True
 
@@ -330,33 +337,37 @@ class Journal:
     def decide(self, row: int, word: str) -> None:
         """Notes that a row is `done` or free `again`. Raises `ValueError` for one that can't be
         decided."""
-        it = self._seen(self._entry(row))
+        it, now = self._locked(row)
+        it = self._seen(it)
         if it.state in ("free", word):
             what = "has not begun" if it.state == "free" else f"is {word}"
             raise ValueError(f"row {row} {what}")
         if it.state == "begun":
             raise ValueError(f"row {row} is in progress")
         self._start(0)
-        self._change(it, word, "decided", state="done" if word == "done" else "free", decided=1,
-                     reason="decided")
+        self._change(it, (word, "decided", now), state="done" if word == "done" else "free",
+                     decided=1, reason="decided")
 
     def _is_mine(self, it: Entry) -> bool:
         return it.run == self.run and it.state in ("begun", "unsure") and not it.decided
 
-    def _free_lapsed(self) -> None:
-        """Gives up the rows of runs whose lease has ended."""
-        live = sorted(self._live())
-        signs = ", ".join("?" * len(live))
-        for it in self._entries(f"WHERE state IN ('taken', 'begun') AND run NOT IN ({signs})"
-                                f"{self.base.for_free}", *live):
-            if it.state == "taken":
-                self._change(it, state="free", run=None, reader=None)
-            else:
-                self._change(it, "unsure", LAPSED, state="unsure", reason=LAPSED)
+    def _at_work(self) -> list[Entry]:
+        """Returns the rows that are taken or have begun. Gives up those whose run has ended."""
+        words = "WHERE state IN ('taken', 'begun')"
+        found = self._entries(words)
+        others = {it.run for it in found} - self._own
+        for run in sorted(map(str, others and others - self._live())):
+            for it in self._entries(f"{words} AND run = ?{self.base.for_free}", run):
+                if it.state == "taken":
+                    self._change(it, state="free", run=None, reader=None)
+                else:
+                    line = "unsure", LAPSED, self._now()
+                    self._change(it, line, state="unsure", reason=LAPSED)
+        return found
 
     # What was noted.
 
-    @whole
+    @look
     def entry(self, row: int) -> Entry:
         """Returns a row as it is seen now: one that is only taken is free, and one that has begun
         is unsure once its run has ended. A row that is not there has not begun."""
@@ -365,12 +376,12 @@ class Journal:
     def state(self, row: int) -> str:
         return self.entry(row).state
 
-    @whole
+    @look
     def has_begun(self) -> bool:
         """Whether any row has ever begun."""
         return bool(self.base.execute("SELECT 1 FROM log LIMIT 1"))
 
-    @whole
+    @look
     def about(self, row: int) -> str:
         """Returns a row with its state, and with its station if that is another one."""
         it = self._seen(self._entry(row))
@@ -379,7 +390,7 @@ class Journal:
         where = "" if found.get(it.run) in (None, found[self.run]) else f" at {found[it.run]}"
         return f"row {row}, which is {'in progress' if it.state == 'begun' else it.state}{where}"
 
-    @whole
+    @look
     def counts(self) -> Counter[str]:
         """Counts the rows by their state."""
         rows = self.base.execute("SELECT state, count(*) FROM rows GROUP BY state")
@@ -391,7 +402,7 @@ class Journal:
             found.update(unsure=over, begun=-over)
         return +found
 
-    @whole
+    @look
     def has_free(self) -> bool:
         """Whether a row is free, or may be as long as it is only taken."""
         words = "SELECT 1 FROM rows WHERE state IN ('free', 'taken') LIMIT 1"
@@ -416,21 +427,21 @@ class Journal:
             yield from found
             size, last = len(found), found[-1].number if found else last
 
-    @whole
+    @look
     def _page(self, words: str, last: int) -> list[Entry]:
         return [*map(self._seen, self._entries(words, last))]
 
-    @whole
+    @look
     def cards(self) -> list[tuple[Any, ...]]:
         """Returns each card, its row, and since when."""
         return self._cards("")
 
-    @whole
+    @look
     def runs(self) -> dict[str, Run]:
         found = self.base.execute("SELECT run, station, operator, version, script FROM runs")
         return {run: Run(*more) for run, *more in found}
 
-    @whole
+    @look
     def history(self, row: int) -> list[tuple[Any, ...]]:
         """Returns each step of a row: its number, time, run, word and note."""
         found = self.base.execute("SELECT * FROM log WHERE number = ? ORDER BY step", row)
@@ -458,7 +469,8 @@ class Journal:
         found = {it.number: it for it in self._entries("")}
         for row in found.keys() - wanted.keys():
             self.base.execute("DELETE FROM rows WHERE number = ?", row)
-        others = [it for it in found.values() if it.key != wanted.get(it.number, it.key)]
+        others = [self._locked(it.number)[0] for it in found.values()
+                  if it.key != wanted.get(it.number, it.key)]
         for it in others:
             if it.state != "free":
                 raise ValueError(f"{self.place}: row {it.number} has begun with another key")
@@ -493,16 +505,23 @@ class Journal:
 
     def _entries(self, words: str, *values: Any) -> list[Entry]:
         found = self.base.execute(f"SELECT {_FIELDS} FROM rows {words}", *values)
-        rows = [*map(Entry._make, found)]
-        for it in rows:
-            if it.sum != sum_of(*it[:-1]):
-                self._fail(f"the sum of row {it.number} is wrong")
-        return rows
+        return [*map(self._checked, found)]
+
+    def _checked(self, fields: Iterable[Any]) -> Entry:
+        it = Entry._make(fields)
+        if it.sum != sum_of(*it[:-1]):
+            self._fail(f"the sum of row {it.number} is wrong")
+        return it
 
     def _entry(self, row: int) -> Entry:
-        """Returns a row, which no other run changes up to the end of the step."""
-        lock = "" if self.only_looks else self.base.for_row
-        return [*self._entries(f"WHERE number = ?{lock}", row), Entry(row)][0]
+        return [*self._entries("WHERE number = ?", row), Entry(row)][0]
+
+    def _locked(self, row: int) -> tuple[Entry, float]:
+        """Returns a row, which no other run changes up to the end of the step, and the time."""
+        words = f"SELECT {_FIELDS}, {self.base.now} FROM rows WHERE number = ?{self.base.for_row}"
+        for *fields, now in self.base.execute(words, row):
+            return self._checked(fields), float(now)
+        return Entry(row), 0
 
     def _cards(self, words: str, *values: Any) -> list[tuple[Any, ...]]:
         found = self.base.execute(f"SELECT * FROM cards {words}", *values)
@@ -524,15 +543,17 @@ class Journal:
         found = self.base.execute(words)
         return {*self._own, *(it for it, where in found if not is_gone(it, where))}
 
-    def _change(self, it: Entry, word: str = "", text: str = "", **fields: Any) -> None:
-        """Changes a row, and adds a line with a word to its log."""
-        new = it._replace(steps=it.steps + bool(word), **fields).summed()
+    def _change(self, it: Entry, said: tuple[Any, ...] = (), **fields: Any) -> None:
+        """Changes a row, and adds what is `said`, a word, a text and a time, to its log."""
+        new = it._replace(steps=it.steps + bool(said), **fields).summed()
         named = [*fields, "steps", "sum"]
         words = f"UPDATE rows SET {' = ?, '.join(named)} = ? WHERE number = ?"
-        self.base.execute(words, *(getattr(new, name) for name in named), it.number)
-        if word:
-            line = (it.number, new.steps, self._now(), self.run, word, text)
-            self.base.insert("log", [(*line, sum_of(*line))])
+        self.base.change(words, *(getattr(new, name) for name in named), it.number)
+        if said:
+            word, text, at = said
+            line = (it.number, new.steps, at, self.run, word, text)
+            words = "INSERT INTO log VALUES (?, ?, ?, ?, ?, ?, ?)"
+            self.base.change(words, *line, sum_of(*line))
         self.writes += 1
 
 

@@ -125,6 +125,11 @@ class Server:
             cursor.execute(words.replace("?", "%s"), values or None)
             return [*cursor.fetchall()] if cursor.description else []
 
+    def change(self, words: str, *values: Any) -> int:
+        with self._connection.cursor() as cursor:
+            cursor.execute(words.replace("?", "%s"), values)
+            return int(cursor.rowcount)
+
     def insert(self, table: str, rows: list[tuple[Any, ...]]) -> None:
         try:
             with self._connection.cursor() as cursor:

@@ -43,6 +43,9 @@ class Database(Protocol):
     def execute(self, words: str, *values: Any) -> list[tuple[Any, ...]]:
         """Executes a statement, with a `?` for each value."""
 
+    def change(self, words: str, *values: Any) -> int:
+        """Executes a statement that changes rows. Returns how many it has changed."""
+
     def insert(self, table: str, rows: list[tuple[Any, ...]]) -> None:
         """Adds these rows to a table, at once. Raises `ValueError` if one is there already."""
 

@@ -221,6 +221,25 @@ def test_a_server_that_goes_away(tmp_path):
         server.close()
 
 
+def test_a_full_disk_of_the_server(tmp_path, kind, monkeypatch):
+    """It is not waited for. The card in progress is unsure, and the same command continues."""
+    from galliumtoad.batch import on_server
+
+    monkeypatch.setattr(on_server, "PATIENCE", 9000)
+    room = kind(tmp_path, 3)
+    room.create(0x9F7F)
+    room.asked("CREATE FUNCTION fills() RETURNS trigger LANGUAGE plpgsql AS $$ BEGIN"
+               " RAISE EXCEPTION 'could not extend file' USING ERRCODE = '53100'; END $$")
+    room.asked("CREATE TRIGGER fills BEFORE INSERT ON log FOR EACH ROW"
+               " WHEN (NEW.word = 'done') EXECUTE FUNCTION fills()")
+    status, _, error = room.run()
+    assert (status, error) == (1, f"{room.names[0]}: {room.place}: could not extend file\n")
+    assert room.to_decide() == {1: "unsure"} and room.cards_of(1) == (1, 1)
+    room.asked("DROP TRIGGER fills ON log")
+    room.decide()
+    room.finish(3)
+
+
 class Stations:
     """Stations at a journal. Some of them are killed."""
 

@@ -210,6 +210,14 @@ def test_steps_that_a_damaged_log_has_lost_are_missed(tmp_path):
     assert room.run("--status")[0] == 1
 
 
+def test_a_new_journal_has_no_step(tmp_path):
+    """Although the number of an old one's steps was left."""
+    room = Room(tmp_path, 1)
+    assert room.run()[0] == 0
+    (tmp_path / "journal").unlink()
+    assert (tmp_path / "journal-steps").exists() and room.run()[0] == 0
+
+
 def test_the_number_of_steps_only_grows(tmp_path, monkeypatch):
     """Whichever process notes it later."""
     synced = []
@@ -372,6 +380,17 @@ def test_a_lease_ends_by_the_clock_of_the_database(tmp_path, kind, apart):
     assert not one.begin(2, "00", "B") and room.events() == ["begin 1", "unsure 1"]
     assert one.reserve("B") == 4
     assert two.about(1) == "row 1, which is unsure"
+
+
+def test_a_reader_keeps_the_row_that_it_has_taken(tmp_path, kind):
+    """Until that begins. A row that is wanted is taken alone, and only if it is free."""
+    room = kind(tmp_path, 5)
+    room.create()
+    one = room.opened(5)
+    found = [one.reserve("A"), one.reserve("A"), one.reserve("A", 3), one.reserve("B", 1)]
+    assert found == [1, 1, 3, None]
+    one.release(3)
+    assert one.begin(1, "00", "A") and one.reserve("A") == 2
 
 
 def test_a_lease_is_renewed_and_lasts_a_minute(tmp_path, kind, apart):

@@ -95,7 +95,7 @@ def test_the_package_stays_small():
     assert 300 < sum(len(code(it)) for it in files) <= 660
 
 
-@pytest.mark.parametrize(("names", "most"), [(SIMULATION, 2500), (["batch/*.py"], 2600),
+@pytest.mark.parametrize(("names", "most"), [(SIMULATION, 2500), (["batch/*.py"], 2680),
                                              (["trials/*.py"], 2100)])
 def test_programs_stay_small(names, most):
     """Each function has fewer than 40 lines."""

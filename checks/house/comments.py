@@ -5,6 +5,7 @@ import io
 import re
 import tokenize
 
+SCRIPT = (".js", ".ts")
 C_LIKE = (".rt", ".rs", ".c", ".h", ".hpp", ".cc", ".cs", ".go")
 LEXED = re.compile(
     r"""(?P<line>//[^\n]*)
@@ -15,6 +16,9 @@ LEXED = re.compile(
     | [^/"'br]+ | .""",
     re.S | re.X,
 )
+# Texts of JavaScript may be in back quotes, and in single ones be longer than one character.
+OF_SCRIPT = re.compile(r"`(?:\\.|[^`\\])*` | '(?:\\.|[^'\\\n])*' | "
+                       + LEXED.pattern.replace("/\"'br", "/\"'`br"), re.S | re.X)
 ANTT = re.compile(r"""(?P<line>(?<!\S)--(?=\s|$)[^\n]*)|"(?:\\.|[^"\\\n])*"|[^"-]+|.""", re.S)
 BEFORE_STATEMENTS = (tokenize.NEWLINE, tokenize.INDENT, tokenize.DEDENT)
 MARK = re.compile(r"//[/!]|//|--|/\*+|\*/|\*|#")
@@ -30,13 +34,16 @@ def is_shell(path, text):
 
 def is_cut(path, text):
     """Whether this file is in a language that can be cut."""
-    return path.endswith((*C_LIKE, ".antt")) or is_python(path, text) or is_shell(path, text)
+    is_known = path.endswith((*C_LIKE, *SCRIPT, ".antt"))
+    return is_known or is_python(path, text) or is_shell(path, text)
 
 
 def comments(path, text):
     """The line and the text of each comment, in order. A docstring counts as one."""
     if path.endswith(".antt"):
         yield from lexed(ANTT, text)
+    elif path.endswith(SCRIPT):
+        yield from lexed(OF_SCRIPT, text)
     elif path.endswith(C_LIKE):
         yield from lexed(LEXED, text)
     elif is_python(path, text):

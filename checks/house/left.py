@@ -23,15 +23,17 @@ DECLARED = {
           r"|^ *(?:pub(?:\([a-z]+\))? )?(?:struct|enum|trait) (\w+)",
     "Makefile": r"^([A-Za-z]\w*) *[:?+]?= *|^([a-z]\w*):(?!=)",
     "sh": r"^(\w+)\(\) \{",
+    "js": r"^(?:export )?(?:async )?(?:function|class|const|let) (\w+)"
+          r"|^ {4}(?:async |get )?(?!if|for|while|switch|catch)(\w+)\([^;]*\) \{$",
 }
 DECLARED = {kind: re.compile(text, re.M) for kind, text in DECLARED.items()}
 KINDS = {".py": "py", ".c": "c", ".h": "c", ".cc": "c", ".hpp": "c", ".rs": "rs", ".rt": "rs",
-         ".sh": "sh"}
-# Lists of wrong lines, and of findings that may stay, use no name.
-LISTS = (".faults", ".edit", "house/stays.txt")
+         ".sh": "sh", ".js": "js"}
+# Lists of wrong lines, and of findings that may stay, use no name. One page is made of sources.
+LISTS = (".faults", ".edit", "house/stays.txt", "js/play.html")
 # What a program finds without the name.
-FOUND = re.compile(r"_|test_|pytestmark$|main$")
-FILES_FOUND = re.compile(r".*/cases/|(?:.*/)?(?:test_\w+\.py|\.gitignore|README\.md"
+FOUND = re.compile(r"_|test_|pytestmark$|main$|constructor$")
+FILES_FOUND = re.compile(r".*/cases/|(?:.*/)?(?:test_\w+\.py|\w+\.test\.js|\.gitignore|README\.md"
                          r"|[^/]+\.(?:antt|edit|faults|mdoc|verdict|in|install))$")
 OPTION = re.compile(r'\badd_argument\("--((?!version)[\w-]+)"')
 # Where a product is: what only tests name there is left over.

@@ -8,7 +8,7 @@ from findings import Finding
 from sources import IN_CODE, code_without_comments, crate_of, line_of
 
 COLUMNS = 100
-LONG_LINES = (".rt", ".antt", ".c", ".cc", ".go", ".h", ".hpp", ".rs", ".py")
+LONG_LINES = (".rt", ".antt", ".c", ".cc", ".go", ".h", ".hpp", ".rs", ".py", ".js", ".ts")
 # Lines that rt fmt joins, of any length: imports and attributes.
 JOINED = re.compile(r"\s*(?:(?:ghost|pub|pub\(crate\)) )*use |\s*#!?\[")
 

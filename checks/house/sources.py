@@ -7,8 +7,8 @@ from collections import defaultdict
 from dataclasses import dataclass
 from pathlib import Path
 
-READ = {".rt", ".antt", ".c", ".cc", ".cs", ".go", ".h", ".hpp", ".rs", ".py", ".md", ".txt",
-        ".help"}
+READ = {".rt", ".antt", ".c", ".cc", ".cs", ".go", ".h", ".hpp", ".rs", ".py", ".js",
+        ".ts", ".md", ".txt", ".help"}
 
 WORD = re.compile(r'[^\s(){}\[\],;.:`"]+')
 IMPORT = re.compile(

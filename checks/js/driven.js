@@ -3,7 +3,7 @@
 /** Waits until what is filled in has been played. Returns what the page then shows. */
 export async function shown() {
     const at = (name) => document.getElementById(name);
-    for (let times = 0; times < 1000; times++) {
+    for (let times = 0; times < 5000; times++) {
         if (at("talk").getAttribute("aria-busy") === "false") break;
         await new Promise((resolve) => { setTimeout(resolve, 20); });
     }
@@ -64,8 +64,13 @@ export async function contrast() {
     return Math.min(...[...all].map(of));
 }
 
-/** Asks a server in each way that a page has, from a script of the page itself. */
-export async function askEverywhere(server) {
+/**
+ * Asks a server in each way that a page has, from a script of the page itself. Returns what the
+ * page's policy has refused, as soon as that are `wanted` ways.
+ */
+export async function askEverywhere(server, wanted) {
+    const refused = new Set();
+    document.addEventListener("securitypolicyviolation", (it) => refused.add(it.blockedURI));
     const code = `
         const at = (name) => ${JSON.stringify(server)} + name;
         const tried = (call) => { try { Promise.resolve(call()).catch(() => {}); } catch {} };
@@ -84,7 +89,6 @@ export async function askEverywhere(server) {
         tried(() => new WebSocket(at("socket").replace("http", "ws")));
         tried(() => work("fetch(" + JSON.stringify(at("worker")) + ")"));
         tried(() => import(at("import")));
-        tried(() => { const it = add("form", {}); });
         const form = document.createElement("form");
         const target = document.createElement("iframe");
         target.name = "target";
@@ -94,5 +98,8 @@ export async function askEverywhere(server) {
     const script = document.createElement("script");
     script.textContent = `{${code}}`;
     document.body.append(script);
-    await new Promise((resolve) => { setTimeout(resolve, 1500); });
+    for (let times = 0; times < 3000 && refused.size < wanted; times++) {
+        await new Promise((resolve) => { setTimeout(resolve, 20); });
+    }
+    return [...refused];
 }

@@ -55,6 +55,8 @@ const answers = (text) => text.split("\n").filter((it) => it.startsWith("= "));
 const EXAMPLES = Object.entries(JSON.parse(
     /<script type="application\/json" id="examples">([^]*?)<\/script>/.exec(PAGE)[1]));
 const example = (title) => after("fill", "#example", title);
+// the fewest ways to ask a server that each browser has
+const WAYS = 6;
 const KEPT = "0|0||||A terminal and a smart card talk";
 
 async function tests() {
@@ -189,14 +191,18 @@ async function tests() {
     });
     await test("no fault in the page's scripts", () => assert.deepEqual(browser.faults, []));
     await test("no request leaves the page, and none of this is kept", async () => {
-        await browser.run(driven.askEverywhere, address);
+        const refused = await browser.run(driven.askEverywhere, address, WAYS);
+        assert.ok(refused.length >= WAYS, refused.join(" "));
         assert.deepEqual(heard, []);
         assert.equal((await shown()).kept, KEPT);
     });
     await test("the same page without its policy asks the server", async () => {
         await browser.go(copy("open", PAGE.replace(POLICY, "")));
-        await browser.run(driven.askEverywhere, address);
-        assert.ok(new Set(heard).size >= 6, heard.join(" "));
+        await browser.run(driven.askEverywhere, address, 0);
+        for (let times = 0; times < 3000 && new Set(heard).size < WAYS; times++) {
+            await new Promise((resolve) => { setTimeout(resolve, 20); });
+        }
+        assert.ok(new Set(heard).size >= WAYS, heard.join(" "));
     });
     await test("with the module for 32 bits", async () => {
         await browser.go(copy("narrow", PAGE.replace("WebAssembly.validate(WIDE)", "false")));

@@ -28,8 +28,9 @@ export const tagNumber = (tag) => within(tag, 0, 0xFFFFFF, "a tag");
 /** Returns the bytes that pairs of hexadecimal digits spell. Spaces between bytes are skipped. */
 export function fromHex(digits) {
     if (typeof digits !== "string") throw new TypeError("digits are a string");
-    if (!/^(\s*[0-9A-Fa-f]{2})*\s*$/.test(digits)) throw new RangeError("no pairs of hex digits");
-    return Uint8Array.from(digits.match(/[0-9A-Fa-f]{2}/g) ?? [], (it) => parseInt(it, 16));
+    const pairs = digits.match(/[0-9A-Fa-f]{2}|\S/g) ?? [];
+    if (pairs.some((it) => it.length < 2)) throw new RangeError("no pairs of hex digits");
+    return Uint8Array.from(pairs, (it) => parseInt(it, 16));
 }
 
 /** Returns the digits of bytes, in upper case. */

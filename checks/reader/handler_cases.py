@@ -9,7 +9,7 @@ from pathlib import Path
 
 from long_card import LongCard, pattern
 from world import (BRIEF, BUILD, INSTALLED, PATIENT, SELECT, SELECTED, Card, Room, Wrong,
-                   await_that, same)
+                   await_that, end, same)
 
 SUCCESS, TAG, PTS_FAILURE, NOT_SUPPORTED_CODE, PROTOCOL, POWER = 0, 600, 605, 606, 607, 608
 COMMUNICATION, NOT_SUPPORTED, PRESENT, ABSENT, NO_DEVICE, NO_ROOM = 612, 614, 615, 616, 617, 618
@@ -287,7 +287,7 @@ def waits(handler, card):
 
 
 def lose(handler):
-    """A fault: the card waits for data, and the program for an answer. Returns the time after it."""
+    """A fault: the card waits for data, and the program for an answer. Returns when it ended."""
     same(handler.power(LUN, UP)[0], SUCCESS)
     same(handler.transmit(LUN, 0, SELECT), (SUCCESS, "610B"))
     same(handler.transmit(LUN, 0, "00DA005102"), (COMMUNICATION, ""))
@@ -318,6 +318,32 @@ def is_lost(handler, card):
     # a tty that was never there is an empty slot
     same((handler.create(0, "none:"), handler.present(0), handler.close(0)),
          (SUCCESS, ABSENT, SUCCESS))
+
+
+def refuses_pps(handler, card):
+    """After PPS that failed the card has to be reset: the slot is empty, without power."""
+    same(handler.power(LUN, UP)[0], SUCCESS)
+    same(handler.protocol(LUN, T1), PTS_FAILURE)
+    same(card.struck(), True, "the fault has struck:")
+    same((handler.present(LUN), handler.get(LUN, 0x0303)), (ABSENT, (SUCCESS, "")))
+    same(handler.transmit(LUN, 0, SELECT), (COMMUNICATION, ""))
+
+
+def is_back_at_once(handler, card):
+    """The name of the tty is that of another one before the first ends. The card there has no power
+    yet."""
+    same(handler.power(LUN, UP), (SUCCESS, "3B00"))
+    same(handler.transmit(LUN, 0, SELECT), (SUCCESS, "610B"))
+    with Room() as room:
+        other, new = Card(room, "other", "3B1011"), room.path / "new"
+        new.symlink_to(other.tty.readlink())
+        new.replace(card.tty)
+        end(card.process)
+        same((handler.present(LUN), handler.get(LUN, 0x0303)), (ABSENT, (SUCCESS, "")))
+        same(handler.transmit(LUN, 0, SELECT), (COMMUNICATION, ""))
+        await_that("the slot has a card", lambda: handler.present(LUN) == PRESENT)
+        same(handler.power(LUN, UP), (SUCCESS, "3B1011"))
+        handler.close(LUN)
 
 
 def no_state():
@@ -385,14 +411,15 @@ class Memory(ctypes.Structure):
         "fordblks", "keepcost")]
 
 
-def keeps_no_memory(handler, _):
-    """Sessions and their commands free what they take."""
+def keeps_no_memory(handler, card):
+    """Readers, sessions and commands free what they take."""
     ask = ctypes.CDLL(None).mallinfo2
     ask.restype = Memory
     protocol = 0 if handler.power(LUN, UP)[1] == "3B00" else 1
 
     def sessions(count):
         for _ in range(count):
+            same((handler.close(LUN), handler.create(LUN, f"{card.tty}:{PATIENT}")), (0, 0))
             same(handler.power(LUN, UP)[0], SUCCESS)
             for _ in range(4):
                 same(handler.transmit(LUN, protocol, SELECT), (SUCCESS, "610B"))
@@ -440,4 +467,7 @@ def group(case):
     case("PPS after more than the patience", lambda: with_card(
         has_patience_for_pps, "3B9011800100", f"{PATIENT},patience=4"))
     case("after a fault", lambda: with_card(is_lost, settings=BRIEF))
+    case("after PPS that failed",
+         lambda: with_card(refuses_pps, "3B9011800100", BRIEF, ["pps, mute"]))
+    case("another tty at once", lambda: with_card(is_back_at_once))
     case("no state", no_state)

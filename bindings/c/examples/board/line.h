@@ -39,7 +39,8 @@ bool line_has_more(void);
 /* Drops what was received, and what comes until nothing comes for this many ticks. */
 void line_drop(uint64_t quiet);
 
-/* Waits until `guard` etu after the last character began. Returns whether none has come since. */
+/* Waits until `guard` etu after the last character began. Returns whether no other one was
+ * received. */
 bool line_is_quiet(unsigned guard);
 
 /* Sends characters. The first begins no earlier than `guard` etu after the last one received. */

@@ -14,6 +14,9 @@ test("objects and their faults", () => {
     assert.deepEqual(gt.objects(new Uint8Array(0)), []);
     raises(() => gt.find(new Uint8Array(0), 0x5F), gt.CallError, "GT_ARGUMENT");
     raises(() => gt.head(0x5F, 1), gt.CallError, "GT_ARGUMENT");
+    const long = new Uint8Array(70_001);
+    long[70_000] = 0x5F;
+    raises(() => gt.objects(long), gt.ObjectsError, "GT_TAG_CUT", 70_000);
 });
 
 test("the deepest level is 16", () => {

@@ -223,6 +223,15 @@ test("more time", () => {
     assert.equal(probe.seen().at(-1), "settled");
 });
 
+test("no more time for what came whole", () => {
+    for (const way of ["tpdu", "apdu"]) {
+        const probe = new Probe();
+        probe.multiple = 2;
+        assert.equal(toHex(new OwnCard(probe)[way](fromHex("00D600000141"))), "9000");
+        assert.deepEqual(probe.seen(), ["did 00D60000 41 0", "settled"]);
+    }
+});
+
 test("what an application throws resets the card", () => {
     const probe = new Probe();
     const card = new OwnCard(probe);

@@ -77,6 +77,15 @@ test("a damaged block", async () => {
     assert.deepEqual(await atT1("", [[3, { at: 4, change: 0x76 }]]), blocks("damaged"));
 });
 
+test("what blocks mean", async () => {
+    const faults = new Map([[2, {}]]);
+    const events = await play(readScript(CARD + SELECT), { protocol: 1, faults });
+    const pcbs = events.filter((it) => it.kind === "bytes").map((it) => it.parts[1].words);
+    assert.deepEqual(pcbs, ["S(IFS request)", "S(IFS response)", "I-block, number 0",
+        "R-block, awaits number 0: wrong check or parity", "I-block, number 0",
+        "I-block, number 0"]);
+});
+
 test("a lost block", async () => {
     assert.deepEqual(await atT1("", [[2, { isLost: true }]]), blocks("lost"));
 });
@@ -145,7 +154,8 @@ test("scripts that are refused", () => {
         ...["5F", "FF", "3F", "40FF", "5F80", "5F00"].map((it) => [`get ${it}`, "line 1: bad tag"]),
         ["get 0", "line 1: bad hex"], ["plan x 1", "line 1: bad plan"],
         ["plan - 257", "line 1: bad number"], ["plan - 0", "line 1: bad number"],
-        ["put 50 AA*0", "line 1: bad hex"], ["put 50 AA*16321", "line 1: value too long"],
+        ["put 50 AA*0", "line 1: bad hex"], ["put 50 AA*65536", "line 1: bad hex"],
+        ["put 50 AA*16321", "line 1: value too long"],
         ["object 50 -", "line 1: no app"],
         ["app A0000000031010\nreset\nobject 50 -", "line 3: table line after the first run line"],
     ]) {

@@ -117,3 +117,8 @@ test("what the line throws, and a second command meanwhile", async () => {
     assert.throws(() => end.reset(), /another call/);
     await assert.rejects(first, gt.BlockError);
 });
+
+test("an outcome that is not known is unknown", () => {
+    assert.equal(new gt.BlockError(gt.Code.ABORTED).outcome, UNKNOWN);
+    assert.equal(new gt.BlockError(gt.Code.ABORTED, NOT_CARRIED_OUT).outcome, NOT_CARRIED_OUT);
+});

@@ -67,7 +67,7 @@ test("what is no operation is refused", async () => {
     const terminal = new Terminal();
     class Other extends Get {}
     for (const it of [Get, 0x50, null, undefined, {}, new Other(0x50)]) {
-        assert.throws(() => terminal.begin(it), TypeError);
+        assert.throws(() => terminal.begin(it), /^TypeError: an operation is a Select/);
         await assert.rejects(terminal.run(() => OK, it), TypeError);
     }
     assert.throws(() => terminal.begin(new Select("A0000000031010")), TypeError);

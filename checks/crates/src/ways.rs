@@ -1,11 +1,12 @@
 //! Tests of `as_called`: random commands, beside an application that is called directly.
 
 use apdu_core::{Command, Header, Status};
-use as_called::OverT0;
+use as_called::{Direct, Link, OverT0, OverT1, SendFault, send};
 use command_card::{CommandCard, Copied, Eager};
 use std::alloc::{AllocError, AllocGlobal};
 use std::process::Abort;
 use t0_core::{CardEnd, Plan, Plans, Silent};
+use t1_core::{Edc, Fate, Fates, Line, Outcome, Settings};
 
 /// How many random commands the test makes.
 const COMMANDS: usize = 3_000;
@@ -311,4 +312,139 @@ fn a_session_at_t0_is_as_called(rt: HostRuntime) {
         let now = session.session().card().application().current().calls;
         assert!(&rt; now == beside.calls);
     }
+}
+
+/// A line that damages or loses one block of eight. After `left` exchanges it loses every block.
+#[derive(Drop)]
+struct Noisy {
+    numbers: Numbers,
+    left: usize,
+}
+
+impl Noisy {
+    fn fate(&mut self) -> Fate {
+        match self.numbers.next(16) {
+            0 => Fate::Damages,
+            1 => Fate::Loses,
+            _ => Fate::Delivers,
+        }
+    }
+}
+
+impl Line for Noisy {
+    // Ghost members must be there. Nothing proves these.
+    ghost use Rattle.std.specs.Prelude.{[]};
+
+    ghost passed = { λ _. [] };
+
+    fn next(&mut self) -> Fates {
+        if self.left == 0 {
+            return Fates {
+                down: Fate::Loses,
+                up: Fate::Loses,
+            };
+        }
+        self.left -= 1;
+        Fates {
+            down: self.fate(),
+            up: self.fate(),
+        }
+    }
+}
+
+/// A random command with a valid INS, whatever the direction of its data.
+fn command(rt: &impl Abort, numbers: &mut Numbers) -> Command<'static> {
+    let (header, le) = (header(numbers), le(numbers));
+    Command::new(header, data(numbers), le).expect(rt, "a command")
+}
+
+/// Sends random commands by whole commands, beside an application that is called directly.
+fn is_as_called<K: Link<Copied<Teller>>>(
+    rt: &(impl Abort + AllocGlobal),
+    link: &mut K,
+    numbers: &mut Numbers,
+) {
+    let mut beside = Beside::new(rt);
+    for at in 0..COMMANDS {
+        let command = command(rt, numbers);
+        let reply = beside.answer(rt, &command);
+        let Ok(exchange) = send(rt.alloc(), link, command) else {
+            panic!(rt; "command {at} has no answer");
+        };
+        let Some((status, data)) = exchange.answer() else {
+            panic!(rt; "command {at} has not ended");
+        };
+        assert!(rt; data == &reply.data[..], "data of command {at}");
+        assert!(rt; word(status) == reply.status, "status of command {at}");
+    }
+}
+
+#[test]
+fn whole_commands_are_as_called(rt: HostRuntime) {
+    let application = Copied::new(Teller { calls: 0 });
+    let mut card = Direct::new(rt.alloc(), application).expect(&rt, "memory");
+    is_as_called(&rt, &mut card, &mut Numbers { state: 5 });
+}
+
+/// Both ends of a line at T=1 that fails after `left` exchanges.
+fn over_t1(
+    rt: &(impl Abort + AllocGlobal),
+    ifsc: u8,
+    state: u64,
+    left: usize,
+) -> OverT1<Copied<Teller>, Noisy> {
+    let settings = Settings::new(Edc::Lrc, ifsc, 40, 40, 16_386).expect(rt, "settings");
+    let line = Noisy {
+        numbers: Numbers { state },
+        left,
+    };
+    OverT1::new(rt.alloc(), Copied::new(Teller { calls: 0 }), line, settings).expect(rt, "memory")
+}
+
+#[test]
+fn a_line_at_t1_is_as_called(rt: HostRuntime) {
+    let mut card = over_t1(&rt, 20, 7, 10_000_000);
+    is_as_called(&rt, &mut card, &mut Numbers { state: 9 });
+}
+
+/// A line at T=1 that fails after `left` exchanges of one command. The response has 600 bytes, so
+/// GET RESPONSE follows. Returns the outcome, and how often the application was called.
+fn dying(rt: &(impl Abort + AllocGlobal), left: usize) -> Option<(Outcome, u32)> {
+    let header = Header {
+        cla: 0,
+        ins: 0x20,
+        p1: 2,
+        p2: 88,
+    };
+    let command = Command::new(header, &[], Some(256)).expect(rt, "a command");
+    let mut card = over_t1(rt, 4, 11, left);
+    let fault: SendFault = send(rt.alloc(), &mut card, command).err()?;
+    assert!(rt; !card.is_ready());
+    let calls = card.into_card().application().current().calls;
+    Some((fault.outcome(), calls))
+}
+
+#[test]
+fn an_outcome_at_t1_is_true(rt: HostRuntime) {
+    let mut seen = [0; 3];
+    for left in 0..60 {
+        let Some((outcome, calls)) = dying(&rt, left) else {
+            continue;
+        };
+        match outcome {
+            Outcome::NotCarriedOut => {
+                seen[0] += 1;
+                assert!(&rt; calls == 0, "{left}");
+            }
+            Outcome::Unknown => {
+                seen[1] += 1;
+                assert!(&rt; calls <= 1, "{left}");
+            }
+            Outcome::InPart => {
+                seen[2] += 1;
+                assert!(&rt; calls == 1, "{left}");
+            }
+        }
+    }
+    assert!(&rt; seen[0] > 0 && seen[1] > 0 && seen[2] > 10);
 }

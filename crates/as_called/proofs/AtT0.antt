@@ -16,8 +16,8 @@ use Rattle.command_card.specs.declared.application.TheConstants.{OWN_RESPONSE_LI
 use Rattle.exchange_core.specs.Gathered.{Gathers, UnitOf, dialogues_of, wanted_by}
 use Rattle.card_terminal.specs.Conversing.{HaveGone, point}
 use Rattle.card_terminal.specs.Talk.{HaveCuts}
-use Rattle.command_card.specs.Carrying.{Did, IsOwn, Makes}
-use Rattle.command_card.specs.State.{CardState, Left, Nothing_left, For_fetch, For_repeat, fetch_left, is_fetch, pending_for}
+use Rattle.command_card.specs.Carrying.{Did}
+use Rattle.command_card.specs.State.{CardState, Left, Nothing_left, For_fetch, For_repeat, is_fetch, pending_for}
 use Rattle.command_card.specs.Meaning.{Does}
 use Rattle.command_card.specs.View.{MayReceive, MaySend}
 use Rattle.command_card.specs.AtT1.{shown}

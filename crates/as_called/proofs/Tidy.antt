@@ -1,5 +1,5 @@
 -- What waits is the rest of a response, within its limit.
-use Rattle.std.proofs.Common.{◌≡◌, ◌≤◌, ℕ, List, [], ◌∷◌, length, drop, refl, sym, ap, subst, arith, inl, inr, length-drop}
+use Rattle.std.proofs.Common.{◌≤◌, ℕ, List, [], ◌∷◌, length, drop, refl, sym, ap, subst, arith, inl, inr, length-drop}
 use Rattle.apdu_core.specs.CommandBytes.{Command}
 use Rattle.apdu_core.specs.StatusWord.{StatusWord}
 use Rattle.command_card.specs.declared.application.TheConstants.{OWN_RESPONSE_LIMIT}

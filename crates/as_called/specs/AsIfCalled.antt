@@ -16,6 +16,10 @@ use Rattle.command_card.specs.Told.{unwanted_part, wanted_part}
 abbrev pub By_plans : ℕ → Type 0
 By_plans most = IsCut most
 
+-- By whole commands, so also at T=1, it announces up to 256 bytes.
+abbrev pub By_whole : ℕ → Type 0
+By_whole most = most ≡ 256
+
 -- The terminal reports this of a response and its status. The first Le bytes are there, all of them
 -- for Le 00 and none without Le. If no byte is left the status is the response's own. Otherwise it
 -- is 61XX, and the rest waits for GET RESPONSE.

@@ -1,1 +1,4 @@
 pub mod AsIfCalled
+pub mod Faults
+pub mod Whole
+pub mod Sending

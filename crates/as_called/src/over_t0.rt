@@ -1,6 +1,10 @@
 //! A card of an application at T=0, behind a line that delivers every character.
-ghost use Rattle.std.specs.Prelude.{◌≡◌, IfOk, IsErrOf, false};
+ghost use Rattle.std.specs.Prelude.{◌≡◌, IfOk, IsErrOf, List, false};
+ghost use Rattle.std.specs.List.{flat_map};
+ghost use Rattle.exchange_core.specs.Gathered.{Gathers, UnitOf, dialogues_of};
+ghost use Rattle.card_terminal.specs.Conversing.{HaveGone, point};
 ghost use Rattle.card_terminal.specs.declared.session_fault.SessionFault.TheVariants.{OutOfMemory};
+ghost use Rattle.command_card.specs.Meaning.{Does as DoesTpdu};
 ghost use Rattle.command_card.specs.State.{Nothing_left, is_fetch};
 ghost use Rattle.command_card.specs.View.{MayReceive, MaySend, standing_in};
 ghost use Rattle.object_card.specs.Agreed.{IsAgreed};
@@ -72,8 +76,17 @@ impl<A: Application> OverT0<A> {
         ensures as_if_called { IfOk result (λ reply. AsIfCalled A.takes A.Does By_plans
             (standing_in A.standing self.old) command.entry reply.content reply.status
             (standing_in A.standing self.new)) }
+        // The plans that were taken, and what the watch has heard.
+        ensures passed { IfOk result (λ reply. (units : List UnitOf)
+            × Gathers command.entry units reply.content reply.status
+            × HaveGone (DoesTpdu A.takes A.Does)
+            (point (standing_in A.standing self.old) plans.old.rest (W.hearing watch.old))
+            (flat_map dialogues_of units)
+            (point (standing_in A.standing self.new) plans.new.rest (W.hearing watch.new))) }
         ensures memory { IsErrOf result OutOfMemory →
             standing_in A.standing self.new ≡ standing_in A.standing self.old }
+        ensures none_passed { IsErrOf result OutOfMemory →
+            (plans.new ≡ plans.old) × (W.hearing watch.new ≡ W.hearing watch.old) }
     {
         an_exchange_gathers_what_is_asked_for::<A>();
         let _valid = command.header();

@@ -3,7 +3,7 @@
 use crate::counter::Counter;
 use crate::good_line::GoodLine;
 use apdu_core::{Command, Header};
-use as_called::OverT0;
+use as_called::{Direct, OverT0, OverT1, send};
 use card_terminal::{Answers, Op};
 use command_card::{AppletOf, CommandCard, Copied};
 use object_card::{Aid, CardBuilder, DataCard, ObjectCard};
@@ -110,4 +110,24 @@ fn an_application_at_t0(rt: HostRuntime) {
         .send(rt.alloc(), command, &mut Plans::over(none), &mut Silent)
         .expect(&rt, "an answer");
     assert!(rt; answer.data().len() == 3);
+}
+
+#[test]
+fn an_application_by_whole_commands(rt: HostRuntime) {
+    let command = Command::new(COUNT, &[], Some(256)).expect(&rt, "a command");
+    let application = Copied::new(Counter::new());
+    let mut card = Direct::new(rt.alloc(), application).expect(&rt, "memory");
+    let sent = send(rt.alloc(), &mut card, command);
+    assert!(rt; sent.is_ok_and(|exchange| exchange.data().len() == 3));
+}
+
+#[test]
+fn an_application_over_a_line(rt: HostRuntime) {
+    let command = Command::new(COUNT, &[], Some(256)).expect(&rt, "a command");
+    let settings = Settings::new(Edc::Lrc, 254, TRIES, EXTENSIONS, 16_386).expect(&rt, "settings");
+    let line = GoodLine::new(&rt, Vec::new(rt.alloc()));
+    let application = Copied::new(Counter::new());
+    let mut card = OverT1::new(rt.alloc(), application, line, settings).expect(&rt, "memory");
+    let sent = send(rt.alloc(), &mut card, command);
+    assert!(rt; sent.is_ok_and(|exchange| exchange.data().len() == 3));
 }

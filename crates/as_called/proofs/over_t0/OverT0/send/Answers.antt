@@ -18,3 +18,6 @@ invariant_of-self-2 g c =
     (as_if_at_t0 a.takes a.Does c.an_exchange_gathers_what_is_asked_for.ensures _ _ c.args.command
     units _ _ _ _ _ _ c.requires.agreed c.requires.no_fetch c.self.invariant
     c.header-valid.ensures.command gathers gone).1
+
+pub returns-clause-passed : goal.returns-clause-passed
+returns-clause-passed g c = rw (sym c.self.view_is) c.in_ok-answer.ensures.answers

@@ -40,13 +40,16 @@ def read_proc(path):
         return b""
 
 
-def none_is_left(folder, session=0):
+def none_is_left(folder, session=None):
     """Whether no process is left that has this folder for its files or is of a session, and no
     folder of a run."""
     has_folder = f"TMPDIR={folder}\0".encode()
     for it in Path("/proc").glob("[0-9]*"):
+        if has_folder in read_proc(it / "environ"):
+            return False
         of_session = read_proc(it / "stat").rpartition(b") ")[2].split()[3:4]
-        if has_folder in read_proc(it / "environ") or of_session == [b"%d" % session]:
+        # the kernel's own processes are of session 0
+        if session and of_session == [b"%d" % session]:
             return False
     return not list(folder.glob("trials-*"))
 

@@ -3,9 +3,9 @@
 #include "reader.h"
 #include "contactless.h"
 #include "program.h"
+#include "system.h"
 #include "waiting.h"
 
-#include <poll.h>
 #include <string.h>
 
 /* how many times it begins a transaction, if other programs reset the card before each */
@@ -196,7 +196,7 @@ static bool asks_again(LONG code, DWORD protocols, int times)
 {
     if (code != SCARD_E_PROTO_MISMATCH || protocols != EITHER || times >= ASK_LIMIT)
         return false;
-    poll(NULL, 0, ASK_PAUSE);
+    system_pause(ASK_PAUSE);
     return true;
 }
 

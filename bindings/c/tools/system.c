@@ -18,6 +18,11 @@ bool system_begin(void)
     return true;
 }
 
+void system_pause(int milliseconds)
+{
+    poll(NULL, 0, milliseconds);
+}
+
 bool bell_make(struct bell *bell)
 {
     bell->event = NULL;

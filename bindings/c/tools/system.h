@@ -13,6 +13,9 @@
  * Windows: they pass bytes as they are, without CR. */
 bool system_begin(void);
 
+/* Waits this many milliseconds. */
+void system_pause(int milliseconds);
+
 /* A bell that one thread rings once, for another one that waits. */
 struct bell {
     int ends[2];    /* POSIX: of a pipe */

@@ -15,6 +15,11 @@ bool system_begin(void)
     return true;
 }
 
+void system_pause(int milliseconds)
+{
+    Sleep((DWORD)milliseconds);
+}
+
 bool bell_make(struct bell *bell)
 {
     bell->event = CreateEventA(NULL, TRUE, FALSE, NULL);

@@ -91,7 +91,7 @@ def in_the_middle(room, card, name):
         before = len(card.heard())
         program = room.start([INSTALLED.parent / "gt_pcsc", "-r", name, "-f", script], output)
         await_that("the second command", lambda: program.poll() is not None or any(
-            it.startswith("> 00DA") for it in card.heard()[before:]))
+            re.match("> ([0-9A-F]{6})?00DA", it) for it in card.heard()[before:]))
         # pcscd may not have seen the card yet
         if output.read_text(encoding="utf-8") != "no card in the reader\n":
             return program
@@ -126,10 +126,10 @@ def ends(program):
     return status
 
 
-def card_killed():
+def card_killed(atr):
     """The adapter is unplugged in the middle, and comes back with another card."""
     with Room() as room:
-        card = Card(room, "tty", faults=["command 2, delay 40s"])
+        card = Card(room, "tty", atr, faults=["command 2, delay 40s"])
         pcscd, name = one_reader(room, card)
         program = in_the_middle(room, card, name)
         card.end()
@@ -139,7 +139,7 @@ def card_killed():
         pcscd.await_log(f"{card.tty}: the line is gone")
         await_that("the log has the tty", lambda: "the tty cannot be opened: " in pcscd.said())
         same(pcscd.said().count("the tty cannot be opened: "), 1, "lines in the log:")
-        again = Card(room, "tty")
+        again = Card(room, "tty", atr)
         await_that("a reset of the next card", lambda: again.resets)
         await_that("the reader is back", lambda: session(name, SCRIPT) == (0, RIGHT))
         again.end()
@@ -205,10 +205,10 @@ def plugged_in_later():
         pcscd.end()
 
 
-def pcscd_killed(number):
+def pcscd_killed(number, atr):
     """The program ends, and the next pcscd finds the tty free."""
     with Room() as room:
-        card = Card(room, "tty", faults=["command 2, delay 12s"])
+        card = Card(room, "tty", atr, faults=["command 2, delay 12s"])
         pcscd, name = one_reader(room, card)
         program = in_the_middle(room, card, name)
         pcscd.end(number)
@@ -221,10 +221,10 @@ def pcscd_killed(number):
         pcscd.end()
 
 
-def program_killed():
+def program_killed(atr):
     """The next program gets a card that was reset, since the first held a transaction."""
     with Room() as room:
-        card = Card(room, "tty", faults=["command 2, delay 3s"])
+        card = Card(room, "tty", atr, faults=["command 2, delay 3s"])
         pcscd, name = one_reader(room, card)
         program = in_the_middle(room, card, name)
         program.kill()
@@ -363,19 +363,26 @@ def no_pin_of_gpg(faults):
 
 def group(case):
     tests = {
-        "wrong settings": wrong_settings, "a card killed in the middle": card_killed,
+        "wrong settings": wrong_settings,
         "an adapter plugged in later": plugged_in_later,
         "an adapter that is unplugged": is_removed, "a name that vanishes": name_vanishes,
         "an adapter that is back at once": back_at_once,
-        "pcscd killed in the middle": lambda: pcscd_killed(signal.SIGKILL),
-        "pcscd ended in the middle": lambda: pcscd_killed(signal.SIGTERM),
-        "a program killed in the middle": program_killed, "a tty that is held": is_held,
+        "a tty that is held": is_held,
         "a card that never ends, T=0": lambda: never_ends("3B00"),
         "a card that never ends, T=1": lambda: never_ends("3B8081210323"),
         "a bound for all": has_a_bound, "a reader beside a slow one": beside_a_slow_one,
         "programs that compete": two_compete, "no secret in a log, T=0": lambda: no_secret(0),
         "no secret in a log, T=1": lambda: no_secret(1),
     }
+    for protocol, atr in ATRS.items():
+        tests |= {
+            f"a card killed in the middle, T={protocol}": lambda atr=atr: card_killed(atr),
+            f"pcscd killed in the middle, T={protocol}":
+                lambda atr=atr: pcscd_killed(signal.SIGKILL, atr),
+            f"pcscd ended in the middle, T={protocol}":
+                lambda atr=atr: pcscd_killed(signal.SIGTERM, atr),
+            f"a program killed in the middle, T={protocol}": lambda atr=atr: program_killed(atr),
+        }
     for title, test in tests.items():
         case(title, test)
     if has("pyscard"):

@@ -66,6 +66,17 @@ impl Channels {
         if !self.may_name(rows, line) {
             return Ok(false);
         }
+        self.mixes_if_named(rows, is_open, line)
+    }
+
+    /// The same of a line that may name a channel. For speed: apart, since most lines don't.
+    #[inline(never)]
+    fn mixes_if_named(
+        &mut self,
+        rows: &Rows,
+        is_open: bool,
+        line: &[u8],
+    ) -> Result<bool, AllocError> {
         let (label, text) = labelled(line);
         let is_labelled = !label.is_empty();
         let first = first_of(is_labelled, rows.first.as_slice(), text);

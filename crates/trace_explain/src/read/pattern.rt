@@ -167,6 +167,7 @@ impl Marks {
     ///
     /// - `Hex`: the field of the part does not spell this.
     /// - `OutOfMemory`: memory ran out.
+    #[inline(always)]
     fn take(&mut self, alloc: Global, part: Part, left: usize, line: &[u8]) -> Result<(), LineFault>
         ensures says { OnOk result (marked part left line.now (marked_by self.old)
             ≡ Some (marked_by self.new)) }

@@ -198,7 +198,11 @@ def rate(settings, wanted, pps):
             desk.await_session(DONE)
             desk.pcscd.end()
             desk.pcscd = desk.begin()
-        found = [it for it in desk.tty.noted() if it.startswith("set ") and "even" in it]
+        noted = desk.tty.noted()
+        for at in (at for at, it in enumerate(noted) if it == desk.card.after):
+            # the card answers at the rate of the settings, also after a session at another one
+            same([it for it in noted[:at] if it.startswith("set ")][-1:], [EVEN], "at a reset:")
+        found = [it for it in noted if it.startswith("set ") and "even" in it]
         found = [it for at, it in enumerate(found) if found[at - 1 : at] != [it]]
         same(found[: 2 * len(wanted)], [SET.format(it, "even") for it in 2 * wanted][: len(found)])
         same(len(found) >= 2 * len(wanted) - 1, True, f"{found}:")

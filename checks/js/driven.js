@@ -44,6 +44,11 @@ export async function overflow() {
     return document.documentElement.scrollWidth - document.documentElement.clientWidth;
 }
 
+/** How many parts of the form stand side by side. */
+export async function columns() {
+    return getComputedStyle(document.querySelector("form")).gridTemplateColumns.split(" ").length;
+}
+
 /** The least contrast of a text in the page with what is behind it (WCAG 2.2). */
 export async function contrast() {
     const numbers = (color) => color.match(/[\d.]+/g).map(Number);

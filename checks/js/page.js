@@ -186,6 +186,7 @@ async function tests() {
         assert.ok(await browser.run(driven.contrast) >= 4.5);
         await browser.narrow(name === "firefox" ? 500 : 320);
         assert.ok(await browser.run(driven.overflow) <= 0);
+        assert.equal(await browser.run(driven.columns), 1);
         await browser.dark();
         assert.ok(await browser.run(driven.contrast) >= 4.5);
     });
